@@ -1,23 +1,18 @@
 -- The texts of the coverage of blocks.
 use Rattle.std.proofs.Common.{◌≡◌, ◌∙◌, ◌++◌, [], ◌∷◌, ℕ, Bool, List, ap, append_assoc, length}
-use Rattle.std.proofs.Common.{refl}
-use Rattle.std.proofs.Common.{map, sym}
-use Rattle.std.specs.Prelude.{Option, codes, flat_map, is_some}
+use Rattle.std.{proofs.Common.{refl, map, sym}, specs.Prelude.{Option, codes, flat_map, is_some}}
 use Rattle.std.proofs.lemmas.List.{length-map}
 use Rattle.block_sim.specs.Parts.{BelongTogether, Parts}
-use Rattle.block_coverage.specs.declared.rows.BlockRow.{BlockRow}
-use Rattle.block_coverage.specs.Blocks.{cells_in}
+use Rattle.block_coverage.specs.{declared.rows.BlockRow.BlockRow, Blocks.cells_in}
 use Rattle.fault_model.specs.Fault.{FaultList}
 use Rattle.workers.specs.Verdict.{AreFirsts}
 use Rattle.report.specs.Report.{coverage_line}
 use Rattle.analysis_reports.specs.Blocks.{block_line, blocks_text, flagged, row_line}
 
 -- the line of a row from its pieces
-pub line_pieces : (row : BlockRow)
-    → (codes "block " ++ (row.name.now ++ (codes " " ++ [])))
+pub line_pieces : (row : BlockRow) → (codes "block " ++ (row.name.now ++ (codes " " ++ [])))
     ++ coverage_line row.detected row.faults ≡ row_line row
-line_pieces row =
-    append_assoc (codes "block ") (row.name.now ++ (codes " " ++ []))
+line_pieces row = append_assoc (codes "block ") (row.name.now ++ (codes " " ++ []))
     (coverage_line row.detected row.faults)
     ∙ ap (λ t. codes "block " ++ t) (append_assoc row.name.now (codes " " ++ [])
     (coverage_line row.detected row.faults)

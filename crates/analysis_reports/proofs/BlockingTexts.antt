@@ -1,18 +1,13 @@
 -- The texts of the pins that block effects, and what verdicts tell of them.
 use Rattle.std.proofs.Common.{◌≡◌, ◌<◌, ◌∙◌, ◌++◌, [], ℕ, Bool, List, ap, false, get_or, length}
-use Rattle.std.proofs.Common.{map, refl, subst, sym, true}
+use Rattle.std.proofs.{Common.{map, refl, subst, sym, true}, lemmas.Option.get_or_from_slice_get}
 use Rattle.std.specs.Prelude.{All, Option, None, Some, codes, decimal, is_some, slice_get}
-use Rattle.std.proofs.lemmas.Option.{get_or_from_slice_get}
 use Rattle.std.proofs.lemmas.Bool.{false≢true}
-use Rattle.bench_net.specs.Scan.{names}
-use Rattle.bench_net.specs.Statement.{Statement}
-use Rattle.fault_model.specs.Detection.{DetectsAt}
-use Rattle.fault_model.specs.Fault.{Fault, FaultList}
-use Rattle.fault_model.specs.Solution.{Test}
+use Rattle.bench_net.specs.{Scan.names, Statement.Statement}
+use Rattle.fault_model.specs.{Detection.DetectsAt, Fault.{Fault, FaultList}, Solution.Test}
 use Rattle.list_lemmas.proofs.Places.{from_mapped, place_within}
 use Rattle.flat_circuit.proofs.Public.{gate_at, pins_within}
-use Rattle.block_sim.specs.First.{IsFirst}
-use Rattle.block_sim.specs.Parts.{BelongTogether, Parts}
+use Rattle.block_sim.specs.{First.IsFirst, Parts.{BelongTogether, Parts}}
 use Rattle.blocking_pins.specs.declared.pins.BlockingPin.{BlockingPin}
 use Rattle.blocking_pins.specs.Blocking.{AreDetected, IsBlockingPin}
 use Rattle.workers.specs.Verdict.{AreFirsts}

@@ -7,8 +7,7 @@ use Rattle.workers.specs.declared.RunFault.{RunFault}
 use Rattle.job_loading.specs.declared.fault.SimFault.{SimFault}
 use Rattle.job_loading.specs.declared.fault.SimFault.TheVariants as fault
 use Rattle.analysis_reports.specs.declared.compacted.KeptCount.{KeptCount}
-use Rattle.analysis_reports.specs.Compacted.{GivesOneOf}
-use Rattle.analysis_reports.specs.Compacted.{count_of, number_line}
+use Rattle.analysis_reports.specs.Compacted.{GivesOneOf, count_of, number_line}
 use Rattle.report.specs.EndToEnd.{IsJobTextFault, IsListFault, WritesOneOf}
 
 -- the text of a failed call that would also have returned a value

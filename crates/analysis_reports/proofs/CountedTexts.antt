@@ -1,6 +1,5 @@
 -- From the counts of a job to the counts of the files that the job was read from.
-use Rattle.std.proofs.Common.{◌≡◌, ◌++◌, refl}
-use Rattle.std.specs.Prelude.{ℕ, List, codes, decimal}
+use Rattle.std.{proofs.Common.{◌≡◌, ◌++◌, refl}, specs.Prelude.{ℕ, List, codes, decimal}}
 use Rattle.bench_net.specs.Statement.{Statement}
 use Rattle.fault_model.specs.Fault.{Fault}
 use Rattle.analysis_reports.specs.Detected.{count_line}

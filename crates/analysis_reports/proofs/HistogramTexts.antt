@@ -1,15 +1,11 @@
 -- The histogram of the counts of a job, and the histogram of the files that the job was read from.
 use Rattle.std.proofs.Common.{◌≡◌, ◌+◌, ◌<◌, ◌≤◌, ◌∙◌, ◌++◌, ◌∷◌, [], ℕ, List, ap, arith}
 use Rattle.std.proofs.Common.{append_assoc, get_or, length, refl, suc, sym, take, zero}
-use Rattle.std.proofs.Math.Bool.{cond}
-use Rattle.std.specs.Prelude.{◌==◌, codes, decimal, Some, slice_get, zip}
-use Rattle.std.specs.List.{flat_map}
-use Rattle.std.proofs.lemmas.List.{same_lists}
-use Rattle.std.proofs.lemmas.List.Sums.{sum_by_more}
-use Rattle.std.proofs.lemmas.Option.{slice_get-get_or}
+use Rattle.std.{proofs.Math.Bool.cond, specs.Prelude.{◌==◌, codes, decimal, Some, slice_get, zip}}
+use Rattle.std.{specs.List.flat_map, proofs.lemmas.List.same_lists}
+use Rattle.std.proofs.lemmas.{List.Sums.sum_by_more, Option.slice_get-get_or}
 use Rattle.patterns.specs.Least.{below}
-use Rattle.patterns.proofs.Public.{get_or-below, get_or-map-below, length-below}
-use Rattle.patterns.proofs.Public.{length-map-below}
+use Rattle.patterns.proofs.Public.{get_or-below, get_or-map-below, length-below, length-map-below}
 use Rattle.analysis_reports.specs.Histogram.{faults_with, histogram, histogram_line, histogram_text}
 use Rattle.analysis_reports.specs.Histogram.{one_with}
 use Rattle.byte_output.specs.Output.{Output, TakesAll, TakesFront}
@@ -20,17 +16,14 @@ use Rattle.threaded_lines.proofs.Public.{zipped_by}
 pub with_more : (counts : List ℕ) (n i : ℕ) → i < length counts
     → faults_with (take (i + 1) counts) n
     ≡ faults_with (take i counts) n + one_with n (get_or counts i 0)
-with_more counts n i lt =
-    sum_by_more (λ x. cond (x == n) 1 0) counts i 0 lt
+with_more counts n i lt = sum_by_more (λ x. cond (x == n) 1 0) counts i 0 lt
 
 -- a table with the faults of each count is the histogram
 pub is_histogram : (most : ℕ) (counts faults : List ℕ) → length faults ≡ most + 1
     → ((n : ℕ) → n < most + 1 → get_or faults n 0 ≡ faults_with counts n)
     → faults ≡ histogram most counts
-is_histogram most counts faults count each =
-    same_lists faults (histogram most counts)
-    (count ∙ sym (length-map-below (faults_with counts) (most + 1)))
-    (λ k d lt.
+is_histogram most counts faults count each = same_lists faults (histogram most counts)
+    (count ∙ sym (length-map-below (faults_with counts) (most + 1))) (λ k d lt.
     let within : k < most + 1 = omega (arith, lt, count) in
     from_zero faults k d lt ∙ (each k within
     ∙ sym (get_or-map-below (faults_with counts) (most + 1) k d within)))

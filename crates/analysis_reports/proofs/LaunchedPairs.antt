@@ -1,15 +1,11 @@
 -- The text of pairs, and its errors.
 use Rattle.std.proofs.Common.{◌≡◌, ◌∙◌, ◌++◌, ℕ, List, ap, inl, length, subst}
-use Rattle.bench_net.specs.Refusal.{IsAccepted}
-use Rattle.bench_net.specs.Scan.{sources}
-use Rattle.bench_net.specs.Statement.{Statement}
+use Rattle.bench_net.specs.{Refusal.IsAccepted, Scan.sources, Statement.Statement}
 use Rattle.patterns.specs.declared.TestFault.TheVariants as test_fault
-use Rattle.patterns.specs.Making.{test_text}
-use Rattle.patterns.specs.Tests.{TestList, HasTests}
+use Rattle.patterns.specs.{Making.test_text, Tests.{TestList, HasTests}}
 use Rattle.test_columns.specs.Columns.{columns_line}
-use Rattle.job_loading.specs.declared.fault.SimFault.{SimFault}
+use Rattle.job_loading.specs.{declared.fault.SimFault.SimFault, Jobs.IsInputFault}
 use Rattle.job_loading.specs.declared.fault.SimFault.TheVariants as fault
-use Rattle.job_loading.specs.Jobs.{IsInputFault}
 use Rattle.pairs.specs.Pairs.{AreLaunchPairs}
 use Rattle.analysis_reports.specs.Pairs.{ArePairsOf, IsPairsFault}
 

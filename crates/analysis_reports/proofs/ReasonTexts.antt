@@ -5,16 +5,13 @@ use Rattle.bench_net.specs.Statement.{Statement}
 use Rattle.fault_model.specs.Fault.{Fault}
 use Rattle.undetected.specs.declared.Reason.{Reason}
 use Rattle.undetected.specs.declared.Reason.TheVariants.{NoPath, NotActivated, NotObserved}
-use Rattle.analysis_reports.specs.Reasons.{reason_count}
-use Rattle.analysis_reports.specs.Reasons.{reason_line}
-use Rattle.analysis_reports.specs.Reasons.{reason_text, reasons_line}
+use Rattle.analysis_reports.specs.Reasons.{reason_count, reason_line, reason_text, reasons_line}
 use Rattle.report.specs.Report.{fault_text}
 
 -- the line of a fault with this reason, and of a fault that has none
 pub is_reason_line : (c : List Statement) (f : Fault) (own : Option Reason) (reason : Reason)
     (said : List ℕ) → own ≡ Some reason → said ≡ reason_text reason
-    → fault_text c f ++ (codes " " ++ codes "none " ++ said ++ codes "\n")
-    ≡ reason_line c (f, own)
+    → fault_text c f ++ (codes " " ++ codes "none " ++ said ++ codes "\n") ≡ reason_line c (f, own)
 is_reason_line c f own reason said has is = rw (has, is) refl
 
 pub no_reason_line : (c : List Statement) (f : Fault) (own : Option Reason) → own ≡ None
@@ -23,8 +20,7 @@ no_reason_line c f own has = rw has refl
 
 -- the last line from its numbers, given as texts
 pub counts_line : (reasons : List (Option Reason)) (a b d : List ℕ)
-    → a ≡ decimal (reason_count NoPath reasons)
-    → b ≡ decimal (reason_count NotActivated reasons)
+    → a ≡ decimal (reason_count NoPath reasons) → b ≡ decimal (reason_count NotActivated reasons)
     → d ≡ decimal (reason_count NotObserved reasons)
     → a ++ (codes " no path, " ++ (b ++ (codes " not activated, "
     ++ (d ++ (codes " not observed\n" ++ []))))) ≡ reasons_line reasons

@@ -1,8 +1,7 @@
 -- The responses of files.
 use Rattle.std.proofs.Common.{ℕ, List}
-use Rattle.job_loading.specs.declared.fault.SimFault.{SimFault}
+use Rattle.job_loading.specs.{declared.fault.SimFault.SimFault, Jobs.IsInputFault}
 use Rattle.job_loading.specs.declared.fault.SimFault.TheVariants as fault
-use Rattle.job_loading.specs.Jobs.{IsInputFault}
 use Rattle.analysis_reports.specs.Responses.{IsResponsesFault}
 
 -- an error of the files is an error of the responses

@@ -1,20 +1,19 @@
 -- Numbered statements with levels are a circuit with its tables, and without levels have an error.
 use Rattle.std.proofs.Common.{◌≡◌, ◌<◌, ◌≤◌, ◌+◌, ◌^◌, ℕ, ap, List, [], ◌∷◌, ◌++◌, map, length}
 use Rattle.std.proofs.Common.{filter, refl, arith, inl, inr, ◌⊎◌, length-append, ◌≢◌, ◌==◌, zero}
-use Rattle.std.proofs.Common.{suc, sym, ◌∙◌, subst, true, drop}
+use Rattle.std.proofs.{Common.{suc, sym, ◌∙◌, subst, true, drop}, lemmas.Grind.common_steps}
 use Rattle.std.specs.Prelude.{slice_index, flat_map, IsPermutation, Some, slice_get, Contains}
 use Rattle.std.specs.Prelude.{AllPairs, bytes_eq, Option, None, slice_index_or}
-use Rattle.std.proofs.lemmas.Grind.{common_steps}
-use Rattle.std.proofs.lemmas.Bool.Decides.{nat_tests}
-use Rattle.std.proofs.lemmas.List.Folds.{length-flat_map-take}
+use Rattle.std.proofs.lemmas.{Bool.Decides.nat_tests, List.Folds.length-flat_map-take}
 use Rattle.std.proofs.lemmas.List.Sorted.{IsPermutation-refl, IsPermutation-trans}
 use Rattle.std.proofs.lemmas.List.Sorted.{IsPermutation-middle, IsPermutation-append_right}
 use Rattle.std.proofs.lemmas.List.Sorted.{length_permutation, All-permutation, IsPermutation-sym}
 use Rattle.std.specs.List.{enumerate_from, filter_map, position_or_len}
 use Rattle.std.proofs.lemmas.List.{length-map, map-append, append_assoc, get_or-map}
-use Rattle.bench_net.specs.declared.line.NumberedLine.{NumberedLine}
-use Rattle.bench_net.specs.declared.Sink.{Sink}
-use Rattle.bench_net.specs.declared.Sink.TheVariants.{Pin, Out}
+use Rattle.std.proofs.lemmas.List.Elements.{Contains-get_or, filter-append, All-contains}
+use Rattle.std.proofs.lemmas.Option.{get_or_from_slice_get, slice_get-get_or, slice_get_within}
+use Rattle.bench_net.specs.declared.{line.NumberedLine.NumberedLine, Sink.Sink, sinks.Reader.Reader}
+use Rattle.bench_net.specs.{declared.Sink.TheVariants.{Pin, Out}, Tables.all_pins}
 use Rattle.bench_net.specs.Statement.{Name, Statement, Dff, Output, defines, Gate}
 use Rattle.bench_net.specs.Scan.{names, inputs, cells, sources, signal, gate_line, cell, outputs}
 use Rattle.bench_net.specs.Scan.{pins_of, sinks, name_of, definition}
@@ -23,29 +22,20 @@ use Rattle.bench_net.specs.Stored.{AreStatements, AreRefused, IsFirstStuck}
 use Rattle.bench_net.specs.Tables.{defines_number, output_number, signal_read, pin_readers}
 use Rattle.bench_net.specs.Tables.{output_readers, line_readers, all_readers, PinsFit, input_number}
 use Rattle.bench_net.specs.Tables.{cell_numbers, source_signals, sinks_at, line_gate, signals_in}
-use Rattle.bench_net.specs.Tables.{all_pins}
-use Rattle.list_lemmas.proofs.Members.{Among, contained, among_left, among_right, among}
-use Rattle.list_lemmas.proofs.Members.{mapped_from, filtered_from, among_joined}
-use Rattle.std.proofs.lemmas.List.Elements.{Contains-get_or, filter-append, All-contains}
-use Rattle.std.proofs.lemmas.Option.{get_or_from_slice_get, slice_get-get_or, slice_get_within}
-use Rattle.bench_net.specs.declared.sinks.Reader.{Reader}
-use Rattle.list_lemmas.proofs.Distinct.{Distinct, distinct_from_pairs}
 use Rattle.bench_net.proofs.Names.{same_bytes, bytes_refl, signal-name_of, name_of-signal}
-use Rattle.bench_net.proofs.Names.{definition_defines}
+use Rattle.bench_net.proofs.{Names.definition_defines, GateLevels.{has_depth, level_order}}
 use Rattle.bench_net.proofs.GateLevels.{named, named_number, of_cell, pins, source_statement}
 use Rattle.bench_net.proofs.GateLevels.{signal_below, not_stuck, stuck_name, numbering, has_level}
-use Rattle.bench_net.proofs.GateLevels.{has_depth, level_order}
-use mathlib.Core.Path.{fun_ext}
-use Rattle.bench_net.proofs.LevelSearch.{greatest-at}
-use Rattle.bench_net.specs.declared.tables.Tables.{Tables}
-use Rattle.bench_net.specs.declared.BenchFault.{BenchFault}
-use Rattle.bench_net.specs.declared.BenchFault.TheVariants.{Memory, Cycle}
-use Rattle.bench_net.specs.Circuit.{IsCircuit, sink_count}
+use Rattle.bench_net.{proofs.LevelSearch.greatest-at, specs.declared.tables.Tables.Tables}
+use Rattle.bench_net.specs.declared.BenchFault.{BenchFault, TheVariants.{Memory, Cycle}}
+use Rattle.bench_net.{specs.Circuit.{IsCircuit, sink_count}, proofs.LineTables.definition_count}
 use Rattle.bench_net.specs.Marks.{pins_in, gate_pins, AreLevelsOf, IsLowestStuck, IsLevelFault}
 use Rattle.bench_net.specs.Inside.{AreTableLines, AreTables, IsInside, IsPlace}
-use Rattle.list_lemmas.proofs.Places.{at_place}
-use Rattle.bench_net.proofs.LineTables.{definition_count}
 use Rattle.bench_net.proofs.NumberedLines.{reads_numbers, reads_held, known}
+use Rattle.list_lemmas.proofs.Members.{Among, contained, among_left, among_right, among}
+use Rattle.list_lemmas.proofs.{Members.{mapped_from, filtered_from, among_joined}, Places.at_place}
+use Rattle.list_lemmas.proofs.Distinct.{Distinct, distinct_from_pairs}
+use mathlib.Core.Path.{fun_ext}
 use Rattle.bench_net.specs.declared.line.NumberedLine.TheVariants as line
 
 -- ---- sources
@@ -70,8 +60,7 @@ counts ns (_ ∷ lines) = let more = counts ns lines in grind (arith, common_ste
 -- a line reads no more than all lines do
 line_count : (lines : List NumberedLine) (l : NumberedLine) → Contains lines l
     → length (read_numbers l) ≤ length (flat_map read_numbers lines)
-line_count lines l (k, lt, is) =
-    grind (arith, is, length-flat_map-take read_numbers lines k l lt)
+line_count lines l (k, lt, is) = grind (arith, is, length-flat_map-take read_numbers lines k l lt)
 
 -- the pins read no more than the lines
 pin_count : (lines : List NumberedLine)
@@ -258,8 +247,7 @@ module _ (whole : List Statement) (n : Name) (named : Contains (names whole) n) 
         ≡ sinks whole n
     sinks_are lines is are once =
         sinks-append (line_readers 0 lines) (output_readers (filter_map output_number lines))
-        (signal whole n)
-        ∙ rw (
+        (signal whole n) ∙ rw (
           line_sinks [] lines are (rw is once) (ap qs (sym is)),
           outputs_are ns (signal whole) lines are,
           is,
@@ -277,8 +265,7 @@ module _ (ns : List Name) (lines : List NumberedLine) (at : List ℕ)
   once = subst (AllPairs (λ m n. m ≢ n)) (sym are.names_are) are.once
 
   number_of : (s : ℕ) (n : Name) → name_of c s ≡ Some n → signal c n ≡ s
-  number_of s n e =
-      signal-name_of c s n once e (contained (names c) n (at_place (names c) s n e))
+  number_of s n e = signal-name_of c s n once e (contained (names c) n (at_place (names c) s n e))
 
   right_numbers : (xs : List ℕ) → ((s : ℕ) → Among s xs → s < length ns)
       → xs ≡ map (signal c) (map (name_at ns) xs)
@@ -388,8 +375,7 @@ module _ (ns : List Name) (lines : List NumberedLine) (at : List ℕ)
       none [] e = refl
       none (l ∷ ls) e = let bad : statement_of ns l ∷ statements_of ns ls ≡ [] = e in cc
 
-  pub inside : (tables : Tables) → AreTables lines tables → lines ≢ []
-      → IsInside c ns lines tables
+  pub inside : (tables : Tables) → AreTables lines tables → lines ≢ [] → IsInside c ns lines tables
   inside tables tabled some = record {
     circuit = circuit tables tabled some;
     names_are = are.names_are;

@@ -1,29 +1,21 @@
 -- Lines of a file: the words that make their names, and the places and names that make an error.
 use Rattle.std.proofs.Common.{◌≡◌, ◌<◌, ℕ, zero, suc, sym, refl, ◌∙◌, ap, true, not, List, [], ◌∷◌}
-use Rattle.std.proofs.Common.{◌++◌, take, drop, arith, inl, inr, length-take}
+use Rattle.std.{proofs.Common.{◌++◌, take, drop, arith, inl, inr, length-take}, specs.List.list_all}
 use Rattle.std.specs.Prelude.{Contains, IsSomeAnd, ◌↔◌, Option, Some, None, slice_get, flat_map}
-use Rattle.std.specs.List.{list_all}
-use Rattle.std.specs.Str.{IsUtf8}
-use Rattle.std.proofs.lemmas.Bool.Decides.{nat_tests}
-use Rattle.std.proofs.lemmas.Option.{slice_get_within}
-use Rattle.std.proofs.lemmas.Slice.Zip.{AllZip-right}
-use Rattle.std.proofs.lemmas.Str.{IsUtf8-from_ascii}
-use Rattle.std.proofs.lemmas.Str.Ascii.{IsAscii-from_all}
+use Rattle.std.{specs.Str.IsUtf8, proofs.lemmas.Bool.Decides.nat_tests}
+use Rattle.std.proofs.lemmas.{Option.slice_get_within, Slice.Zip.AllZip-right}
+use Rattle.std.proofs.lemmas.Str.{IsUtf8-from_ascii, Ascii.IsAscii-from_all}
 use Rattle.std.proofs.lemmas.List.Concat.{flat_map-append}
 use Rattle.std.proofs.lemmas.List.Elements.{filter_map-append, Contains-get_or}
 use Rattle.text_lines.specs.Lines.{lines}
-use Rattle.bench_net.specs.Text.{is_word_byte}
-use Rattle.bench_net.specs.Statement.{Name, Statement, Gate, defined, read}
-use Rattle.bench_net.specs.Reading.{HasArity, States, LinesState, statements}
-use Rattle.bench_net.specs.Scan.{names}
-use Rattle.bench_net.specs.Circuit.{HaveArities, IsStuck}
+use Rattle.bench_net.specs.{Text.is_word_byte, Statement.{Name, Statement, Gate, defined, read}}
+use Rattle.bench_net.specs.{Reading.{HasArity, States, LinesState, statements}, Scan.names}
+use Rattle.bench_net.specs.{Circuit.{HaveArities, IsStuck}, Refusal.IsCyclic, declared.Kind.Kind}
 use Rattle.bench_net.specs.Refusal.{at_line, IsLowest, NoLine, IsRedefinition, IsUndefined}
-use Rattle.bench_net.specs.Refusal.{IsCyclic}
+use Rattle.bench_net.proofs.Names.{defined_few}
 use Rattle.list_lemmas.proofs.Members.{Among, among, contained, among_left, among_right}
 use Rattle.list_lemmas.proofs.Members.{among_joined, joined_from, each_passes}
-use Rattle.bench_net.specs.declared.Kind.{Kind}
 use Rattle.list_lemmas.proofs.Distinct.{Distinct, distinct_append}
-use Rattle.bench_net.proofs.Names.{defined_few}
 
 abbrev pub Stated : Type 0
 Stated = Option Statement
@@ -103,8 +95,7 @@ earlier f stated j n = (
       (suc k.0, lt, (t.0, sym (at_front stated j (suc k.0) lt) ∙ k.1, contained _ n t.2)),
 )
 
-distinct_apart : (xs ys : List Name) (n : Name)
-    → Distinct (xs ++ ys) → Among n xs → Among n ys → ⊥
+distinct_apart : (xs ys : List Name) (n : Name) → Distinct (xs ++ ys) → Among n xs → Among n ys → ⊥
 distinct_apart [] ys n d a b = a
 distinct_apart (x ∷ xs) ys n d (inl e) b = d.0 (among_right xs ys x (rw (← e) at b))
 distinct_apart (x ∷ xs) ys n d (inr a) b = distinct_apart xs ys n d.1 a b
@@ -113,8 +104,7 @@ distinct_apart (x ∷ xs) ys n d (inr a) b = distinct_apart xs ys n d.1 a b
 pub no_redefinition : (stated : List Stated) → Distinct (names_of stated)
     → NoLine (IsRedefinition stated)
 no_redefinition stated once zero bad = cc
-no_redefinition stated once (suc j) bad =
-    distinct_apart (names_of (take j stated)) _ bad.0
+no_redefinition stated once (suc j) bad = distinct_apart (names_of (take j stated)) _ bad.0
     (rw (around stated j _ bad.2.1, filter_map-append, flat_map-append) at once)
     ((earlier defined stated j bad.0).0 (bad.1, bad.3, bad.4))
     (among_left (defined bad.2.0) _ bad.0 (among _ bad.0 bad.2.2))
@@ -127,8 +117,7 @@ once_from : (stated : List Stated)
 once_from [] none = tt
 once_from (None ∷ more) none =
     once_from more (λ i j s t n lt. none (suc i) (suc j) s t n (omega (arith, lt)))
-once_from (Some s ∷ more) none =
-    distinct_append (defined s) (names_of more)
+once_from (Some s ∷ more) none = distinct_append (defined s) (names_of more)
     (elim (defined_few s) [ inl none ↦ rw none tt | inr some ↦ rw some.1 (λ a. a, tt) ])
     (once_from more (λ i j s t n lt. none (suc i) (suc j) s t n (omega (arith, lt))))
     (λ n a b. let t = joined_from defined (statements more) n b in

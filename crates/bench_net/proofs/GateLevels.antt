@@ -1,31 +1,25 @@
 -- Levels and stuck gates of a statement list, by the numbers of its signals.
 use Rattle.std.proofs.Common.{◌≡◌, ◌≢◌, ◌<◌, ◌≤◌, ◌+◌, ◌==◌, ℕ, max, sym, ◌∙◌, ap, subst, refl}
 use Rattle.std.proofs.Common.{Bool, true, List, [], ◌∷◌, map, length, get_or, filter, arith, inl}
-use Rattle.std.proofs.Common.{inr}
+use Rattle.std.{proofs.Common.inr, specs.Prelude.bytes_eq, specs.List.list_any}
 use Rattle.std.specs.Prelude.{Option, Some, None, slice_index, slice_index_or, Contains, AllPairs}
-use Rattle.std.specs.Prelude.{bytes_eq}
-use Rattle.std.specs.List.{list_any}
-use Rattle.std.proofs.lemmas.Bool.{eq-eqb, eqb-true}
-use Rattle.std.proofs.lemmas.List.Elements.{Contains-get_or}
+use Rattle.std.proofs.lemmas.{Bool.{eq-eqb, eqb-true}, List.Elements.Contains-get_or}
 use Rattle.std.proofs.lemmas.List.Sums.{passes_at_first}
 use Rattle.std.proofs.lemmas.List.{length-map, same_lists, get_or-map, get_or_default}
 use Rattle.std.proofs.lemmas.Option.{slice_get-get_or, slice_get_within}
-use Rattle.bench_net.specs.declared.Kind.{Kind}
+use Rattle.bench_net.specs.{declared.Kind.Kind, Scan.{cells, sources}, Rows.{AreRows, rows_before}}
 use Rattle.bench_net.specs.Statement.{Name, Statement, Input, Gate, Output, Dff, defined, defines}
 use Rattle.bench_net.specs.Scan.{names, signal, name_of, definition, gate_line, gate_of, inputs}
-use Rattle.bench_net.specs.Scan.{cells, sources}
 use Rattle.bench_net.specs.Circuit.{HasArgument, HaveArities, IsNumbering, IsStuckSet, IsStuck}
 use Rattle.bench_net.specs.Level.{greatest, AreLevels, HasLevel, IsLevelOrder, HasDepth}
 use Rattle.bench_net.specs.Marks.{pins_in, AreLevelsOf, HaveLevels, no_signal, one_more, IsStuckAt}
-use Rattle.bench_net.specs.Rows.{AreRows, rows_before}
+use Rattle.bench_net.proofs.Names.{any_true, same_bytes, at_position, definition_defines}
+use Rattle.bench_net.proofs.{Names.signal-name_of, Reader.some_args}
+use Rattle.bench_net.proofs.LevelSearch.{greatest-cons, greatest-among, one_level}
+use Rattle.bench_net.proofs.KeyRows.{place_listed, places_below, places_ordered}
 use Rattle.list_lemmas.proofs.Members.{Among, among, contained, some_passes, among_filter}
 use Rattle.list_lemmas.proofs.Members.{among_append, among_map, among_joined, mapped_from}
 use Rattle.list_lemmas.proofs.Places.{placed}
-use Rattle.bench_net.proofs.Names.{any_true, same_bytes, at_position, definition_defines}
-use Rattle.bench_net.proofs.Names.{signal-name_of}
-use Rattle.bench_net.proofs.LevelSearch.{greatest-cons, greatest-among, one_level}
-use Rattle.bench_net.proofs.KeyRows.{place_listed, places_below, places_ordered}
-use Rattle.bench_net.proofs.Reader.{some_args}
 
 -- the signals that the gate of a signal reads
 abbrev pub pins : List Statement → ℕ → List ℕ

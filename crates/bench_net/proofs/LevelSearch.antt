@@ -6,16 +6,13 @@ use Rattle.std.proofs.lemmas.List.{length-map, length-set, get_or-map, take_all,
 use Rattle.std.proofs.lemmas.List.Sums.{sum_by-set, sum_by-cons, count_by-le-length}
 use Rattle.std.proofs.lemmas.List.Elements.{Contains-get_or}
 use Rattle.std.proofs.lemmas.Option.{slice_get_within, slice_get_cases, get_or_from_slice_get}
-use Rattle.bench_net.specs.declared.levels.Mark.{Mark}
-use Rattle.bench_net.specs.declared.levels.Mark.TheVariants.{Unknown, Open, Level}
-use Rattle.bench_net.specs.Level.{greatest}
-use Rattle.bench_net.specs.declared.levels.OpenGate.{OpenGate}
+use Rattle.bench_net.specs.declared.levels.Mark.{Mark, TheVariants.{Unknown, Open, Level}}
+use Rattle.bench_net.specs.{Level.greatest, declared.levels.OpenGate.OpenGate}
 use Rattle.bench_net.specs.Marks.{AreLevelsOf, HaveLevels, no_signal, one_more, IsLowestStuck}
 use Rattle.bench_net.specs.Marks.{HaveLevelsBelow, is_unknown, waiting_in, steps, pins_left}
 use Rattle.bench_net.specs.Marks.{signals_of, IsMark, IsOpen, IsPath, IsSearch, level_in}
-use Rattle.list_lemmas.proofs.Members.{Among, among, mapped_from}
-use Rattle.list_lemmas.proofs.Places.{at_place, within_place}
 use Rattle.bench_net.proofs.LineTables.{written}
+use Rattle.list_lemmas.proofs.{Members.{Among, among, mapped_from}, Places.{at_place, within_place}}
 
 -- ---- the greatest of a list of numbers
 
@@ -98,8 +95,7 @@ module _ {pins : ℕ → List ℕ} {n begun : ℕ} {marks : List Mark} where
     -- an unknown signal is opened
     pub opened : (later p : ℕ) → slice_get marks p ≡ Some Unknown
         → IsPath pins later (p ∷ signals_of path) → ((s : ℕ) → s ≢ p → begun ≤ s → later ≤ s)
-        → length (pins p) < 2 ^ 32
-        → IsSearch pins n later (set marks p Open) (unpassed p ∷ path)
+        → length (pins p) < 2 ^ 32 → IsSearch pins n later (set marks p Open) (unpassed p ∷ path)
         × (steps pins (set marks p Open) (unpassed p ∷ path) < steps pins marks path)
     opened later p unknown is begins few =
         let within = slice_get_within marks p Unknown unknown in
@@ -137,8 +133,7 @@ module _ {pins : ℕ → List ℕ} {n begun : ℕ} {marks : List Mark} where
 
     -- the next pin's signal has a level
     pub advanced : {p k : ℕ} → slice_get (pins gate.signal) gate.pin ≡ Some p
-        → slice_get marks p ≡ Some (Level k)
-        → IsSearch pins n begun marks (passed gate k ∷ rest)
+        → slice_get marks p ≡ Some (Level k) → IsSearch pins n begun marks (passed gate k ∷ rest)
         × (steps pins marks (passed gate k ∷ rest) < steps pins marks (gate ∷ rest))
     advanced {p} {k} at known =
         let within = slice_get_within (pins gate.signal) gate.pin p at in

@@ -1,14 +1,12 @@
 -- Tables that are lists of lines: the definition of each signal, and its place among the sources.
 use Rattle.std.proofs.Common.{◌≡◌, ◌≢◌, ◌<◌, ◌+◌, ℕ, zero, suc, refl, sym, ◌∙◌, ap, List, [], ◌∷◌}
-use Rattle.std.proofs.Common.{length, get_or, set, filter, arith, ◌⊎◌}
-use Rattle.std.specs.List.{enumerate_from, filter_map}
+use Rattle.std.proofs.{Common.{length, get_or, set, filter, arith, ◌⊎◌}, lemmas.Grind.common_steps}
+use Rattle.std.{specs.List.{enumerate_from, filter_map}, proofs.lemmas.Bool.Decides.nat_tests}
 use Rattle.std.specs.Prelude.{Option, Some, None, slice_get, slice_index}
-use Rattle.std.proofs.lemmas.Grind.{common_steps}
-use Rattle.std.proofs.lemmas.Bool.Decides.{nat_tests}
 use Rattle.std.proofs.lemmas.Option.{slice_get-get_or, slice_get_within, get_or_from_slice_get}
 use Rattle.bench_net.specs.declared.line.NumberedLine.{NumberedLine}
-use Rattle.bench_net.specs.declared.line.NumberedLine.TheVariants as line
 use Rattle.bench_net.specs.Tables.{ArePlaces, defines_number, place_in, definition_places}
+use Rattle.bench_net.specs.declared.line.NumberedLine.TheVariants as line
 
 -- ---- definitions
 
@@ -25,8 +23,7 @@ places_at k (_ ∷ lines) (suc s) p e =
     let at = places_at (k + 1) lines s p e in (suc at.0, at.1, omega (arith, at.2), at.3, at.4)
 
 pub line_at : (lines : List NumberedLine) (places : List ℕ) (s : ℕ)
-    → places ≡ definition_places lines
-    → s < length places → (slice_index places s < length lines)
+    → places ≡ definition_places lines → s < length places → (slice_index places s < length lines)
     × (slice_get lines (slice_index places s) ≡ slice_get (filter defines_number lines) s)
 line_at lines places s are lt =
     let here = slice_get-get_or places s 0 lt in

@@ -1,11 +1,9 @@
 -- Names that are put into one text, and taken out of it.
 use Rattle.std.proofs.Common.{◌≡◌, ◌<◌, ◌≤◌, ◌-◌, ◌+◌, ℕ, zero, suc, refl, sym, ap, List, [], ◌∷◌}
-use Rattle.std.proofs.Common.{◌++◌, take, drop, length, length-drop, arith}
+use Rattle.std.{proofs.Common.{◌++◌, take, drop, length, length-drop, arith}, specs.Str.IsUtf8}
 use Rattle.std.specs.Prelude.{Some, slice_get, slice_index}
-use Rattle.std.specs.Str.{IsUtf8}
 use Rattle.std.proofs.lemmas.List.{drop-append-le, take-append-le, take_all}
-use Rattle.bench_net.specs.Statement.{Name}
-use Rattle.bench_net.specs.NameText.{cut_names, start_of, AreEnds, AreTexts}
+use Rattle.bench_net.specs.{Statement.Name, NameText.{cut_names, start_of, AreEnds, AreTexts}}
 
 -- a start is no greater than the length of the text
 pub start_within : (size start : ℕ) (ends : List ℕ) → AreEnds size start ends → start ≤ size

@@ -1,22 +1,16 @@
 -- Computed tests of names in a list, and the numbers of names.
 use Rattle.std.proofs.Common.{◌≡◌, refl, sym, subst, Bool, true, false, List, [], ◌∷◌, arith, inl}
-use Rattle.std.proofs.Common.{inr, ◌⊎◌, ℕ, zero, suc, ap}
+use Rattle.std.{proofs.Common.{inr, ◌⊎◌, ℕ, zero, suc, ap}, specs.Prelude.flat_map}
 use Rattle.std.specs.Prelude.{Contains, ◌≢◌, bytes_eq, AllPairs, Some, None, slice_get, unwrap_or}
-use Rattle.std.specs.Prelude.{flat_map}
-use Rattle.std.specs.List.{list_all, list_any, position_or_len}
-use Rattle.std.proofs.lemmas.Bool.{cases_Bool}
-use Rattle.std.proofs.lemmas.List.Folds.{list_any_at}
-use Rattle.std.proofs.lemmas.Map.Views.{Contains-from_any}
-use Rattle.std.proofs.lemmas.List.Kept.{AllPairs-cons}
-use Rattle.std.proofs.lemmas.List.Elements.{Contains-get_or}
-use Rattle.std.proofs.lemmas.Slice.Eq.{bytes_eq-Decides}
+use Rattle.std.{specs.List.{list_all, list_any, position_or_len}, proofs.lemmas.Bool.cases_Bool}
+use Rattle.std.proofs.lemmas.{List.Folds.list_any_at, Map.Views.Contains-from_any}
+use Rattle.std.proofs.lemmas.List.{Kept.AllPairs-cons, Elements.Contains-get_or}
+use Rattle.std.proofs.{lemmas.Slice.Eq.bytes_eq-Decides, Math.Numerals.one-add}
 use Rattle.bench_net.specs.Statement.{Name, Statement, Output, defined, Input, Gate, Dff, read}
+use Rattle.bench_net.specs.{reader.Entries.is_in, Scan.{names, signal, name_of, definition}}
+use Rattle.bench_net.specs.Circuit.{IsWellFormed}
 use Rattle.list_lemmas.proofs.Distinct.{Distinct, distinct_from_pairs, one_place_of}
 use Rattle.list_lemmas.proofs.Members.{contained, among, Among, among_joined}
-use Rattle.bench_net.specs.reader.Entries.{is_in}
-use Rattle.std.proofs.Math.Numerals.{one-add}
-use Rattle.bench_net.specs.Scan.{names, signal, name_of, definition}
-use Rattle.bench_net.specs.Circuit.{IsWellFormed}
 
 pub same_bytes : (m n : Name) → bytes_eq m n ≡ true → m ≡ n
 same_bytes m n e = (bytes_eq-Decides m n).0 e
@@ -48,8 +42,7 @@ among_in ns n a = any_true (bytes_eq n) ns n (contained ns n a) (bytes_refl n)
 -- names each of which stands once
 pub pairs_distinct : (ns : List Name) → Distinct ns → AllPairs (λ m n. m ≢ n) ns
 pairs_distinct [] d = λ i j e lt len. absurd (omega (arith, len))
-pairs_distinct (n ∷ ns) d =
-    AllPairs-cons (λ m n. m ≢ n) n ns
+pairs_distinct (n ∷ ns) d = AllPairs-cons (λ m n. m ≢ n) n ns
     (λ k e h same. d.0 (subst (λ m. Among m ns) (sym same) (among ns _ (Contains-get_or ns k e h))))
     (pairs_distinct ns d.1)
 

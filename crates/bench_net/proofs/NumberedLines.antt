@@ -2,53 +2,39 @@
 -- file.
 use Rattle.std.proofs.Common.{◌≡◌, ◌<◌, ◌+◌, ◌==◌, ℕ, zero, suc, refl, sym, ap, List, [], ◌∷◌, ◌++◌}
 use Rattle.std.proofs.Common.{length, length-append, take, map, arith, get_or, ◌≤◌, ◌∙◌, append-nil}
-use Rattle.std.proofs.Common.{subst, ◌≢◌}
-use Rattle.std.proofs.Common.{false, filter, inl, inr}
+use Rattle.std.{proofs.Common.{subst, ◌≢◌, false, filter, inl, inr}, specs.Borrow.Bor}
 use Rattle.std.specs.Prelude.{Option, Some, None, slice_get, flat_map, bytes_eq, ◌||◌, Contains}
-use Rattle.std.specs.Prelude.{AllPairs, option_map}
-use Rattle.std.specs.List.{slice_split, list_any, All, list_all}
-use Rattle.std.specs.Borrow.{Bor}
-use Rattle.std.specs.Str.Lines.{strip_carriage_return}
+use Rattle.std.specs.{Prelude.{AllPairs, option_map}, List.{slice_split, list_any, All, list_all}}
+use Rattle.std.{specs.Str.Lines.strip_carriage_return, proofs.lemmas.Slice.Zip.AllZip-long}
 use Rattle.std.proofs.lemmas.List.{map_push, length-map, take-map, map-append, take_more}
-use Rattle.std.proofs.lemmas.List.{get_or-append-add, get_or_append_left}
-use Rattle.std.proofs.lemmas.Slice.Zip.{AllZip-long}
-use Rattle.std.proofs.lemmas.Option.{slice_get-map, slice_get_read}
+use Rattle.std.proofs.lemmas.{List.{get_or-append-add, get_or_append_left}, Grind.common_steps}
+use Rattle.std.proofs.lemmas.{Option.{slice_get-map, slice_get_read}, Bool.both_ways, Simd.map-map}
+use Rattle.std.proofs.lemmas.List.Concat.{flat_map-append, get_or-flat_map}
+use Rattle.std.proofs.lemmas.List.Folds.{length-flat_map-take, flat_map-map}
+use Rattle.std.proofs.lemmas.List.Elements.{All-append, All-map, All-contains, Contains-get_or}
 use Rattle.indexmap.proofs.SetLemmas.{AllZip-push}
 use Rattle.bench_net.specs.Statement.{Statement, Name, read, Output, Gate, defined, defines}
-use Rattle.bench_net.specs.Reading.{States, statements}
-use Rattle.bench_net.specs.Refusal.{IsLowest, IsSyntaxFault, IsRefused}
-use Rattle.bench_net.specs.reader.Parsed.{stated_of, names_of, stands_for, FailsBy}
+use Rattle.bench_net.specs.{Reading.{States, statements}, reader.Entries.{AreCounts, AreNamesFrom}}
+use Rattle.bench_net.specs.{Refusal.{IsLowest, IsSyntaxFault, IsRefused}, declared.Limit.Limit}
+use Rattle.bench_net.specs.{reader.Parsed.{stated_of, names_of, stands_for, FailsBy}, Scan.names}
 use Rattle.bench_net.specs.reader.Entries.{Entry, numbered_from, AreStated, is_in, names_in}
 use Rattle.bench_net.specs.reader.Entries.{defined_of, IsNextFor, IsNumberedLine, AreNumberedLines}
 use Rattle.bench_net.specs.reader.Entries.{entry_of, entries_of, statements_in, reads_in, read_of}
 use Rattle.bench_net.specs.reader.Entries.{AreWithin, AreFew, ArePast, MayBe, AreStatedFrom}
-use Rattle.bench_net.specs.reader.Entries.{AreCounts, AreNamesFrom}
-use Rattle.bench_net.specs.declared.read.Counts.{Counts}
-use Rattle.bench_net.proofs.Reader.{sound_states}
-use Rattle.bench_net.proofs.OneAnswer.{unread_lowest}
-use Rattle.list_lemmas.proofs.Members.{Among, contained, mapped_from, joined_from, among_joined}
-use Rattle.list_lemmas.proofs.Members.{among_right, among}
-use Rattle.std.proofs.lemmas.Grind.{common_steps}
-use Rattle.std.proofs.lemmas.List.Concat.{flat_map-append, get_or-flat_map}
-use Rattle.std.proofs.lemmas.List.Folds.{length-flat_map-take, flat_map-map}
-use Rattle.std.proofs.lemmas.List.Elements.{All-append, All-map, All-contains, Contains-get_or}
-use Rattle.bench_net.specs.declared.line.NumberedLine.{NumberedLine}
-use Rattle.bench_net.specs.declared.number.StatedLine.{StatedLine}
+use Rattle.bench_net.{specs.declared.read.Counts.Counts, proofs.Reader.sound_states}
+use Rattle.bench_net.{proofs.OneAnswer.unread_lowest, specs.declared.line.NumberedLine.NumberedLine}
+use Rattle.bench_net.specs.declared.{number.StatedLine.StatedLine, BenchFault.BenchFault}
 use Rattle.bench_net.specs.Stored.{name_at, statement_of, statements_of, defined_numbers}
 use Rattle.bench_net.specs.Stored.{read_numbers, numbers, AreStatements, AreRefused, AreLinesOf}
-use Rattle.bench_net.proofs.Names.{defined_few, among_in, some_not}
-use Rattle.std.proofs.lemmas.Bool.{both_ways}
-use Rattle.std.proofs.lemmas.Simd.{map-map}
-use Rattle.bench_net.specs.declared.Limit.{Limit}
+use Rattle.bench_net.{proofs.Names.{defined_few, among_in, some_not}, specs.Circuit.sink_count}
 use Rattle.bench_net.specs.declared.Limit.TheVariants.{Bytes, Signals, Sinks}
-use Rattle.bench_net.specs.declared.BenchFault.{BenchFault}
 use Rattle.bench_net.specs.declared.BenchFault.TheVariants.{TooLarge, Redefined, Undefined}
-use Rattle.text_lines.specs.Lines.{lines}
-use Rattle.bench_net.specs.Scan.{names}
-use Rattle.bench_net.specs.Circuit.{sink_count}
-use Rattle.list_lemmas.proofs.Distinct.{Distinct, distinct_from_pairs}
 use Rattle.bench_net.proofs.FaultyLines.{arities_of_text, redefined_lowest, undefined_lowest}
 use Rattle.bench_net.proofs.FaultyLines.{cyclic_lowest, no_redefinition, no_undefined}
+use Rattle.list_lemmas.proofs.Members.{Among, contained, mapped_from, joined_from, among_joined}
+use Rattle.list_lemmas.proofs.Members.{among_right, among}
+use Rattle.list_lemmas.proofs.Distinct.{Distinct, distinct_from_pairs}
+use Rattle.text_lines.specs.Lines.{lines}
 use Rattle.bench_net.specs.declared.line.NumberedLine.TheVariants as line
 use Rattle.bench_net.specs.declared.BenchFault.TheVariants as fault
 
@@ -60,8 +46,7 @@ pub entry_at : (line : ℕ) (stated : List (Option Statement)) (i n : ℕ) (s : 
 entry_at line [] i n s e = let bad : None ≡ Some (n, s) = e in cc
 entry_at line (None ∷ stated) i n s e =
     let p = entry_at (suc line) stated i n s e in (suc p.0, omega (arith, p.1), p.2, p.3)
-entry_at line (Some t ∷ stated) zero n s e =
-    (0, grind (arith, e), grind (arith, e), refl)
+entry_at line (Some t ∷ stated) zero n s e = (0, grind (arith, e), grind (arith, e), refl)
 entry_at line (Some t ∷ stated) (suc i) n s e =
     let p = entry_at (suc line) stated i n s e in
     (suc p.0, omega (arith, p.1), p.2, ap (λ c. t ∷ c) p.3)
@@ -91,8 +76,7 @@ module _ (parts : List (Bor (List ℕ))) (x : Bor (List ℕ)) where
       → AreStatedFrom first (given (parts ++ x ∷ [])) (entries ++ numbered_from n (o ∷ []))
   given_more {first} {o = o} n number h e = record {
     stated = h.stated ++ o ∷ [];
-    each = rw map_push
-        (AllZip-push States (given parts) h.stated _ o h.each (sound_states _ o e));
+    each = rw map_push (AllZip-push States (given parts) h.stated _ o h.each (sound_states _ o e));
     same =
         let long = simp length-map at (AllZip-long States (given parts) h.stated h.each) in
         rw h.same (sym (push first h.stated o n (omega arith)));
@@ -100,14 +84,10 @@ module _ (parts : List (Bor (List ℕ))) (x : Bor (List ℕ)) where
 
   -- the first line that states nothing that a line may state
   pub refused_line : (text : List ℕ) {first : ℕ} {entries : List Entry}
-      → given parts ≡ take (length parts) (lines text)
-      → length parts < length (lines text)
-      → x.now ≡ get_or (lines text) (length parts) x.now
-      → AreStatedFrom first (given parts) entries
-      → stated_of x.now ≡ None
-      → IsLowest (IsSyntaxFault text) (suc (length parts))
-  refused_line text so_far below turn h none =
-      unread_lowest text (length parts) x.now h.stated
+      → given parts ≡ take (length parts) (lines text) → length parts < length (lines text)
+      → x.now ≡ get_or (lines text) (length parts) x.now → AreStatedFrom first (given parts) entries
+      → stated_of x.now ≡ None → IsLowest (IsSyntaxFault text) (suc (length parts))
+  refused_line text so_far below turn h none = unread_lowest text (length parts) x.now h.stated
       (slice_get_read (lines text) _ _ x.now refl below turn) none (rw (← so_far) h.each)
 
 module _ {A : Type 0} (xs : List A) (i : ℕ) (x : A) (h : i < length xs)
@@ -139,22 +119,19 @@ next_for stated i line h e =
 -- names from a number on are no more than all
 pub from_fits : (ns : List Name) (first : ℕ) (own : List Name) → AreNamesFrom ns first own
     → first + length own ≤ length ns
-from_fits ns first own from =
-    omega (
-      arith,
-      from.3,
-      ap length from.2,
-      length-append from.0 (own ++ from.1),
-      length-append own from.1,
-    )
+from_fits ns first own from = omega (
+  arith,
+  from.3,
+  ap length from.2,
+  length-append from.0 (own ++ from.1),
+  length-append own from.1,
+)
 
 name_from : (ns : List Name) (first : ℕ) (own : List Name) (k : ℕ) → AreNamesFrom ns first own
     → k < length own → name_at ns (first + k) ≡ name_at own k
-name_from ns first own k (before, after, is, place) below =
-    ap (λ l. get_or l (first + k) []) is
+name_from ns first own k (before, after, is, place) below = ap (λ l. get_or l (first + k) []) is
     ∙ ap (λ n. get_or (before ++ (own ++ after)) (n + k) []) (sym place)
-    ∙ get_or-append-add before (own ++ after) k []
-    ∙ get_or_append_left own after [] k below
+    ∙ get_or-append-add before (own ++ after) k [] ∙ get_or_append_left own after [] k below
 
 -- the number of the name that a line defines, if the names of some lines have these numbers
 pub next_from : (ns : List Name) (first : ℕ) (stated : List StatedLine) (i : ℕ) (line : StatedLine)
@@ -205,8 +182,7 @@ reads_of ns _ = refl
 pub reads_numbers : (ns : List Name) (lines : List NumberedLine)
     → flat_map read (statements_of ns lines) ≡ map (name_at ns) (flat_map read_numbers lines)
 reads_numbers ns [] = refl
-reads_numbers ns (l ∷ lines) =
-    rw (reads_of ns l, reads_numbers ns lines)
+reads_numbers ns (l ∷ lines) = rw (reads_of ns l, reads_numbers ns lines)
     (sym (map-append (name_at ns) (read_numbers l) (flat_map read_numbers lines)))
 
 -- lines hold the numbers that they read
@@ -237,8 +213,7 @@ may_be text refusal fault Gone (inr p) h = inr (rw p.0 (h p.1))
 names_by : (f : Statement → List Name) (lines : List StatedLine) (stated : List (Option Statement))
     → entries_of lines ≡ numbered_from 1 stated
     → flat_map (λ line. f (stands_for line.statement)) lines ≡ flat_map f (statements stated)
-names_by f lines stated e =
-    sym (flat_map-map f (λ line. stands_for line.statement) lines)
+names_by f lines stated e = sym (flat_map-map f (λ line. stands_for line.statement) lines)
     ∙ ap (flat_map f) (sym (map-map (λ entry. entry.1) entry_of lines)
     ∙ ap (map (λ entry. entry.1)) e ∙ statements_numbered 1 stated)
 

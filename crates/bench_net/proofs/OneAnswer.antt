@@ -3,32 +3,26 @@ use Rattle.std.proofs.Common.{◌≡◌, ◌<◌, ◌≤◌, ℕ, zero, suc, ref
 use Rattle.std.proofs.Common.{not, List, [], ◌∷◌, length, take, arith, inl, inr, ◌⊎◌}
 use Rattle.std.specs.Prelude.{◌≢◌, ◌↔◌, option_map, if◌then◌else◌, ◌==◌, nat_lt, Option, Some, None}
 use Rattle.std.specs.Prelude.{Result, Ok, Err, slice_get, filter_map, is_none}
-use Rattle.std.specs.List.{AllZip, list_any}
-use Rattle.std.proofs.lemmas.List.{nil_from_length}
+use Rattle.std.{specs.List.{AllZip, list_any}, proofs.lemmas.List.nil_from_length}
 use Rattle.std.proofs.lemmas.Bool.{eqb-true, both_ways, cond_both, ltb-true, ltb-false, le-ltb}
-use Rattle.std.proofs.lemmas.Bool.{not-true, true_from_ne_false}
-use Rattle.std.proofs.lemmas.Option.{none-some}
+use Rattle.std.proofs.lemmas.{Bool.{not-true, true_from_ne_false}, Option.none-some}
 use Rattle.std.proofs.lemmas.Bool.Decides.{nat_tests}
-use Rattle.bench_net.specs.declared.Limit.TheVariants.{Bytes, Signals, Sinks}
-use Rattle.bench_net.specs.declared.BenchFault.{BenchFault}
+use Rattle.bench_net.specs.{declared.Limit.TheVariants.{Bytes, Signals, Sinks}, Scan.names}
+use Rattle.bench_net.specs.declared.BenchFault.{BenchFault, TheVariants.{Cycle, Empty, Memory}}
 use Rattle.bench_net.specs.declared.BenchFault.TheVariants.{TooLarge, Syntax, Redefined, Undefined}
-use Rattle.bench_net.specs.declared.BenchFault.TheVariants.{Cycle, Empty, Memory}
-use Rattle.text_lines.specs.Lines.{lines}
-use Rattle.bench_net.specs.Statement.{Name, Statement, Gate, defined, read}
-use Rattle.bench_net.specs.Scan.{names}
-use Rattle.bench_net.specs.Reading.{States, LinesState, statements}
+use Rattle.bench_net.specs.{Statement.{Name, Statement, Gate, defined, read}, reader.Entries.is_in}
+use Rattle.bench_net.specs.{Reading.{States, LinesState, statements}, reader.Parsed.stated_of}
 use Rattle.bench_net.specs.Circuit.{IsWellFormed, max_bytes, max_signals, max_sinks, sink_count}
 use Rattle.bench_net.specs.Refusal.{at_line, IsLowest, NoLine, IsWithin, IsSyntaxFault}
 use Rattle.bench_net.specs.Refusal.{IsRedefinition, IsUndefined, IsCyclic, IsAccepted, IsRefused}
-use Rattle.bench_net.specs.reader.Parsed.{stated_of}
-use Rattle.bench_net.specs.reader.Entries.{is_in}
 use Rattle.bench_net.proofs.Reader.{sound_states, complete_states, unstated}
-use Rattle.list_lemmas.proofs.Members.{among, contained, some_passes, joined_from}
-use Rattle.list_lemmas.proofs.Distinct.{distinct_from_pairs}
 use Rattle.bench_net.proofs.Names.{any_true, in_contained, among_in, pairs_distinct}
 use Rattle.bench_net.proofs.FaultyLines.{Stated, names_of, stated_at, line_among, earlier}
 use Rattle.bench_net.proofs.FaultyLines.{no_redefinition, no_undefined, once_each}
 use Rattle.bench_net.proofs.StuckSets.{stuck_names, stuck_set, stuck_left, none_stuck, numbering}
+use Rattle.text_lines.specs.Lines.{lines}
+use Rattle.list_lemmas.proofs.Members.{among, contained, some_passes, joined_from}
+use Rattle.list_lemmas.proofs.Distinct.{distinct_from_pairs}
 
 -- ---- the program
 
@@ -64,8 +58,7 @@ line_or fault (Some line) later = Err (fault line)
 -- the result past the limits, from the first line with each error
 abbrev pub answer_by : Option ℕ → Option ℕ → Option ℕ → List Statement
     → Result (List Statement) BenchFault
-answer_by r u y c =
-    line_or Redefined r (line_or Undefined u (line_or Cycle y
+answer_by r u y c = line_or Redefined r (line_or Undefined u (line_or Cycle y
     (if length c == 0 then Err Empty else Ok c)))
 
 abbrev pub answer_stated : List Stated → Result (List Statement) BenchFault
@@ -100,12 +93,10 @@ from_zero P none some (suc i) = some i
 
 -- if the lines with the error are the lines that pass
 is_first : {Y : Type 0} (ys : List Y) (F : ℕ → Type 0) (test : ℕ → Y → Bool) → ¬ F 0
-    → ((i : ℕ) → F (suc i) ↔ (passes (test i) (slice_get ys i) ≡ true))
-    → IsFirst F (first test ys)
+    → ((i : ℕ) → F (suc i) ↔ (passes (test i) (slice_get ys i) ≡ true)) → IsFirst F (first test ys)
 is_first [] F test none same =
     from_zero (λ line. ¬ F line) none (λ i f. let bad : false ≡ true = (same i).0 f in cc)
-is_first (y ∷ ys) F test none same =
-    cond_both (test 0 y) _ _ (IsFirst F)
+is_first (y ∷ ys) F test none same = cond_both (test 0 y) _ _ (IsFirst F)
     (λ on. ((same 0).1 on, from_zero (λ k. k < 1 → ¬ F k) (λ _. none) (λ i h f. omega (arith, h))))
     (λ off. behind (first (λ i. test (suc i)) ys)
     (is_first ys (λ line. F (suc line)) (λ i. test (suc i)) (λ f. both_ways _ off ((same 0).0 f))
@@ -118,8 +109,7 @@ is_first (y ∷ ys) F test none same =
 
 -- ---- the four errors
 
-syntax_first : (text : List ℕ)
-    → IsFirst (IsSyntaxFault text) (first (λ i. is_unread) (lines text))
+syntax_first : (text : List ℕ) → IsFirst (IsSyntaxFault text) (first (λ i. is_unread) (lines text))
 syntax_first text =
     is_first (lines text) (IsSyntaxFault text) (λ i. is_unread) (λ bad. none-some _ bad.1)
     (λ i. (λ bad. rw bad.1 ((unstated bad.0).0 bad.2), from i (slice_get (lines text) i) refl))
@@ -159,35 +149,32 @@ passed test _ on = cc
 module _ (stated : List Stated) where
   redefined_first : IsFirst (IsRedefinition stated)
       (first (λ i. passes (redefines (names_of (take i stated)))) stated)
-  redefined_first = is_first stated (IsRedefinition stated) _ (λ bad. none-some _ bad.2.1)
-      (λ i. (
-        λ (n, k, (s, at, here), lt, says).
-            let e = (earlier defined stated i n).0 (k, lt, says) in
-            rw at (any_true _ (defined s) n here (among_in _ _ e)),
-        λ on. let (s, at, clash) = passed _ (slice_get stated i) on in
-            let (n, here, front) = some_passes _ (defined s) clash in
-            let e = (earlier defined stated i n).1 (among _ n (in_contained _ n front)) in
-            (n, e.0, (s, at, here), e.1, e.2),
-      ))
+  redefined_first = is_first stated (IsRedefinition stated) _ (λ bad. none-some _ bad.2.1) (λ i. (
+    λ (n, k, (s, at, here), lt, says).
+        let e = (earlier defined stated i n).0 (k, lt, says) in
+        rw at (any_true _ (defined s) n here (among_in _ _ e)),
+    λ on. let (s, at, clash) = passed _ (slice_get stated i) on in
+        let (n, here, front) = some_passes _ (defined s) clash in
+        let e = (earlier defined stated i n).1 (among _ n (in_contained _ n front)) in
+        (n, e.0, (s, at, here), e.1, e.2),
+  ))
 
   undefined_first : IsFirst (IsUndefined stated)
       (first (λ i. passes (reads_unknown (statements stated))) stated)
-  undefined_first = is_first stated (IsUndefined stated) _ (λ bad. none-some _ bad.1.1)
-      (λ i. (
-        λ (n, (s, at, here), new).
-            rw at (any_true _ (read s) n here (grind (arith, in_contained (names_of stated), new))),
-        λ on. let (s, at, unknown) = passed _ (slice_get stated i) on in
-            let (n, here, off) = some_passes _ (read s) unknown in
-            (n, (s, at, here), λ has. both_ways _ (not-true _ off) (among_in _ _ (among _ _ has))),
-      ))
+  undefined_first = is_first stated (IsUndefined stated) _ (λ bad. none-some _ bad.1.1) (λ i. (
+    λ (n, (s, at, here), new).
+        rw at (any_true _ (read s) n here (grind (arith, in_contained (names_of stated), new))),
+    λ on. let (s, at, unknown) = passed _ (slice_get stated i) on in
+        let (n, here, off) = some_passes _ (read s) unknown in
+        (n, (s, at, here), λ has. both_ways _ (not-true _ off) (among_in _ _ (among _ _ has))),
+  ))
 
   cyclic_first : IsFirst (IsCyclic stated)
       (first (λ i. passes (is_stuck (statements stated))) stated)
-  cyclic_first = is_first stated (IsCyclic stated) _ (λ bad. none-some _ bad.3)
-      (λ i. (
-        λ bad. rw bad.3 (stuck_left (statements stated) bad.0 bad.4),
-        λ on. let (s, at, stuck) = passed _ (slice_get stated i) on in from i s at stuck,
-      ))
+  cyclic_first = is_first stated (IsCyclic stated) _ (λ bad. none-some _ bad.3) (λ i. (
+    λ bad. rw bad.3 (stuck_left (statements stated) bad.0 bad.4),
+    λ on. let (s, at, stuck) = passed _ (slice_get stated i) on in from i s at stuck,
+  ))
     where
       from : (i : ℕ) (s : Statement) → slice_get stated i ≡ Some (Some s)
           → is_stuck (statements stated) s ≡ true → IsCyclic stated (suc i)
@@ -243,8 +230,7 @@ all_read (l ∷ ls) some = go (stated_of l) refl (all_read ls (λ i. some (suc i
 
 -- the plain reader's result is the result of the relations
 answered : (text : List ℕ) → IsAnswer text (answer_text text)
-answered text =
-    cond_both _ _ _ (IsAnswer text) (λ e. ltb-true _ _ e)
+answered text = cond_both _ _ _ (IsAnswer text) (λ e. ltb-true _ _ e)
     (λ e. go (ltb-false _ _ e) _ (syntax_first text))
   where
     stated : List Stated
@@ -294,8 +280,7 @@ answer_is : (text : List ℕ) (stated : List Stated) → IsWithin text stated �
     → IsFirst (IsRedefinition stated) r → IsFirst (IsUndefined stated) u
     → IsFirst (IsCyclic stated) y → answer_text text ≡ answer_by r u y (statements stated)
 answer_is text stated within r u y once known free =
-    stated_answer text stated within.bytes within.each
-    ∙ rw (
+    stated_answer text stated within.bytes within.each ∙ rw (
       le-ltb _ (length (names_of stated)) within.signals,
       le-ltb _ (sink_count (statements stated)) within.sinks,
       first_one (IsRedefinition stated) _ r (redefined_first stated) once,
@@ -322,8 +307,7 @@ exact text (Err Empty) (stated, within, empty) =
     let none = λ (line : ℕ) (s : Statement) (at : at_line stated line ≡ Some (Some s)).
     rw empty at (line_among stated line s at) in
     answer_is text stated within None None None (λ l bad. none l bad.2.0 bad.2.1)
-    (λ l bad. none l bad.1.0 bad.1.1) (λ l bad. none l _ bad.3)
-    ∙ rw empty refl
+    (λ l bad. none l bad.1.0 bad.1.1) (λ l bad. none l _ bad.3) ∙ rw empty refl
 exact text (Err Memory) bad = absurd bad
 exact text (Ok c) (stated, within, same, is) =
     let well : IsWellFormed (statements stated) = rw same at is in

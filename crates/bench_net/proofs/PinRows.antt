@@ -2,19 +2,15 @@
 use Rattle.std.proofs.Common.{◌≡◌, ◌<◌, ◌≤◌, ◌+◌, ◌∙◌, ℕ, zero, suc, sym, ap, refl, cond, arith}
 use Rattle.std.proofs.Common.{List, [], ◌∷◌, ◌++◌, filter, length, get_or, append_assoc}
 use Rattle.std.proofs.Common.{length-append, subst, add-one, take, drop, ◌-◌}
-use Rattle.std.specs.Prelude.{true, false, Some, slice_range}
-use Rattle.std.proofs.lemmas.Grind.{common_steps}
-use Rattle.bench_net.specs.declared.line.NumberedLine.{NumberedLine}
-use Rattle.bench_net.specs.declared.line.NumberedLine.TheVariants as line
+use Rattle.std.{specs.Prelude.{true, false, Some, slice_range}, proofs.lemmas.Grind.common_steps}
+use Rattle.bench_net.specs.{declared.line.NumberedLine.NumberedLine, Tables.line_gate}
 use Rattle.bench_net.specs.Tables.{defines_number, gate_pins, all_pins, HasRow, row_of, signals_in}
-use Rattle.bench_net.specs.Tables.{line_gate}
 use Rattle.bench_net.specs.Marks.{pins_in, ArePinRows, IsGraph, IsPinGraph, AreLevelsOf}
-use Rattle.bench_net.specs.Marks.{IsLevelFault, pins_by}
-use Rattle.bench_net.specs.declared.levels.PinRows.{PinRows}
-use Rattle.bench_net.specs.declared.BenchFault.{BenchFault}
+use Rattle.bench_net.specs.{Marks.{IsLevelFault, pins_by}, declared.levels.PinRows.PinRows}
+use Rattle.bench_net.{specs.declared.BenchFault.BenchFault, proofs.LineTables.definition_count}
+use Rattle.bench_net.specs.declared.line.NumberedLine.TheVariants as line
 use Rattle.list_lemmas.proofs.Members.{Among}
 use mathlib.Core.Path.{fun_ext}
-use Rattle.bench_net.proofs.LineTables.{definition_count}
 
 -- the signals that a line's pins read
 abbrev pub line_pins : NumberedLine → List ℕ
@@ -136,8 +132,7 @@ module _ (lines : List NumberedLine) (rows : PinRows) (n : ℕ)
   levels_by_rows levels by = subst (λ k. AreLevelsOf (gate_pins lines) k levels) count
       (subst (λ f. AreLevelsOf f n levels) (fun_ext are.rows_are) by)
 
-  pub fault_by_rows : (at : List ℕ) (fault : BenchFault)
-      → IsLevelFault (pins_by rows) n at fault
+  pub fault_by_rows : (at : List ℕ) (fault : BenchFault) → IsLevelFault (pins_by rows) n at fault
       → IsLevelFault (gate_pins lines) (signals_in lines) at fault
   fault_by_rows at fault by = subst (λ k. IsLevelFault (gate_pins lines) k at fault) count
       (subst (λ f. IsLevelFault f n at fault) (fun_ext are.rows_are) by)

@@ -3,23 +3,17 @@
 use Rattle.std.proofs.Common.{◌≡◌, ◌<◌, ◌≤◌, ◌+◌, ℕ, zero, suc, ap, refl, cond, Bool, true, false}
 use Rattle.std.proofs.Common.{◌&&◌, List, [], ◌∷◌, length, filter, arith, inl, inr}
 use Rattle.std.specs.Prelude.{IsTrue, Contains, flat_map, bytes_eq, if◌then◌else◌}
-use Rattle.std.specs.List.{list_all, list_any}
+use Rattle.std.{specs.List.{list_all, list_any}, proofs.lemmas.List.nil_from_length}
 use Rattle.std.proofs.lemmas.Bool.{false_from_ne_true, and_parts, and_from, cond_both}
-use Rattle.std.proofs.lemmas.List.{nil_from_length}
-use Rattle.std.proofs.lemmas.List.Elements.{Contains-get_or}
+use Rattle.std.proofs.lemmas.{List.Elements.Contains-get_or, Grind.common_steps}
 use Rattle.std.proofs.lemmas.List.Sums.{length-filter, count_by-le-length}
-use Rattle.std.proofs.lemmas.Grind.{common_steps}
-use Rattle.bench_net.specs.declared.Kind.{Kind}
+use Rattle.bench_net.specs.{declared.Kind.Kind, Scan.{names, sources}, Circuit.IsCircuit}
 use Rattle.bench_net.specs.Statement.{Name, Statement, Output, Gate, defined, read}
-use Rattle.bench_net.specs.Scan.{names, sources}
 use Rattle.bench_net.specs.Circuit.{HasArgument, IsNumbering, IsStuckSet, IsStuck, IsWellFormed}
-use Rattle.bench_net.specs.Circuit.{IsCircuit}
-use Rattle.bench_net.specs.reader.Entries.{is_in}
+use Rattle.bench_net.{specs.reader.Entries.is_in, proofs.Names.read_named, proofs.Reader.some_args}
+use Rattle.bench_net.proofs.Names.{bytes_refl, same_bytes, any_true, among_in, in_contained}
 use Rattle.list_lemmas.proofs.Members.{Among, among, contained, among_joined, among_filter}
 use Rattle.list_lemmas.proofs.Members.{each_passes, some_passes}
-use Rattle.bench_net.proofs.Names.{bytes_refl, same_bytes, any_true, among_in, in_contained}
-use Rattle.bench_net.proofs.Names.{read_named}
-use Rattle.bench_net.proofs.Reader.{some_args}
 
 -- ---- from a numbering to no stuck set
 
@@ -93,8 +87,7 @@ gate_named c n a h =
 
 argument_feeds : (c : List Statement) (ns : List Name) (n a : Name) → HasArgument c n a
     → Among a ns → is_fed c ns n ≡ true
-argument_feeds c ns n a h inside =
-    any_true (gate_fed ns n) c (Gate n h.0 h.1) h.2
+argument_feeds c ns n a h inside = any_true (gate_fed ns n) c (Gate n h.0 h.1) h.2
     (and_from _ _ (bytes_refl n) (any_true (is_in ns) h.1 a h.3 (among_in ns a inside)))
 
 -- a stuck set stays

@@ -3,29 +3,21 @@ use Rattle.std.proofs.Common.{◌≡◌, ℕ, zero, suc, ◌+◌, ◌-◌, ◌<�
 use Rattle.std.proofs.Common.{List, [], ◌∷◌, ◌++◌, map, filter, length, length-append, take, drop}
 use Rattle.std.proofs.Common.{get_or, arith, append-nil, append_assoc, take_all, ⊎_elim}
 use Rattle.std.specs.Prelude.{Option, Some, None, cond, count_by, flat_map, slice_get, unwrap_or}
-use Rattle.std.specs.List.{All, AllZip, slice_range}
-use Rattle.std.proofs.lemmas.Bool.{cases_lt}
+use Rattle.std.{specs.List.{All, AllZip, slice_range}, proofs.lemmas.Bool.cases_lt}
 use Rattle.std.proofs.lemmas.List.{map-append, take_more, take-append-drop, take-take, drop_all}
-use Rattle.std.proofs.lemmas.List.{drop-take}
-use Rattle.std.proofs.lemmas.List.Sums.{sum_by-take-drop}
-use Rattle.std.proofs.lemmas.List.Concat.{flat_map-append}
+use Rattle.std.proofs.lemmas.List.{drop-take, Sums.sum_by-take-drop, Concat.flat_map-append}
 use Rattle.std.proofs.lemmas.List.Elements.{All-append, All-get_or, filter-append}
-use Rattle.text_lines.specs.Lines.{ends_line, lines}
-use Rattle.text_lines.specs.Starts.{IsLineStart}
+use Rattle.text_lines.specs.{Lines.{ends_line, lines}, Starts.IsLineStart}
 use Rattle.text_lines.proofs.Public.{lines-cut}
-use Rattle.bench_net.specs.declared.line.NumberedLine.{NumberedLine}
-use Rattle.bench_net.specs.declared.number.StatedLine.{StatedLine}
-use Rattle.bench_net.specs.Statement.{Name, Statement, defines}
-use Rattle.bench_net.specs.Reading.{States}
-use Rattle.bench_net.specs.Stored.{numbers, statements_of, statement_of}
-use Rattle.bench_net.specs.reader.Parsed.{stands_for}
+use Rattle.bench_net.specs.declared.{line.NumberedLine.NumberedLine, number.StatedLine.StatedLine}
+use Rattle.bench_net.specs.{Statement.{Name, Statement, defines}, Reading.States}
+use Rattle.bench_net.specs.{Stored.{numbers, statements_of, statement_of}, reader.Parsed.stands_for}
 use Rattle.bench_net.specs.reader.Entries.{AreNamesFrom, AreNumberedLines, AreStated, AreStatedFrom}
 use Rattle.bench_net.specs.reader.Entries.{Entry, defined_of, entries_of, entry_of, names_in}
 use Rattle.bench_net.specs.reader.Entries.{numbered_from, reads_in, read_of, statements_in}
 use Rattle.bench_net.proofs.Public.{complete_states, sound_states}
-use Rattle.bench_threads.specs.declared.stretch.Stretch.{Stretch}
-use Rattle.bench_threads.specs.Stretches.{AreCounted, AreStatedBetween, IsCounted, joined}
-use Rattle.bench_threads.specs.Stretches.{line_at, line_numbers_in}
+use Rattle.bench_threads.specs.{declared.stretch.Stretch.Stretch, Stretches.line_numbers_in}
+use Rattle.bench_threads.specs.Stretches.{AreCounted, AreStatedBetween, IsCounted, joined, line_at}
 
 -- ---- the statements of a text that is cut
 
@@ -46,8 +38,7 @@ after_bare n [] more (s ∷ []) later h g =
     let none : numbered_from n (s ∷ []) ≡ [] = rw (bare s h.0) refl in (
       later,
       g,
-      ap (λ k. numbered_from k later) same
-          ∙ ap (λ l. l ++ numbered_from (n + 0) later) (sym none),
+      ap (λ k. numbered_from k later) same ∙ ap (λ l. l ++ numbered_from (n + 0) later) (sym none),
     )
 after_bare n (l ∷ before) more [] later h g = absurd h
 after_bare n (l ∷ before) more (None ∷ stated) later h g =
@@ -55,8 +46,7 @@ after_bare n (l ∷ before) more (None ∷ stated) later h g =
     let same : suc n + length before ≡ n + suc (length before) = omega arith in (
       None ∷ rest.0,
       (h.0, rest.1),
-      rest.2
-          ∙ ap (λ k. numbered_from (suc n) stated ++ numbered_from k later) same,
+      rest.2 ∙ ap (λ k. numbered_from (suc n) stated ++ numbered_from k later) same,
     )
 after_bare n (l ∷ before) more (Some s ∷ stated) later h g =
     let rest = after_bare (suc n) before more stated later h.1 g in
@@ -90,42 +80,31 @@ pub stated_more : (text : List ℕ) (start end : ℕ) (before after : List State
     → IsLineStart text start → AreStated (lines (take start text)) (entries_of before)
     → AreStatedBetween text start end after
     → AreStated (lines (take end text)) (entries_of (before ++ after))
-stated_more text start end before after from are between =
-    ⊎_elim
-    (λ (some : start < length text).
+stated_more text start end before after from are between = ⊎_elim (λ (some : start < length text).
     let cut = lines-cut text start end between.order between.until.within from some in
     let all = after_bare 1 cut.0 (lines (slice_range text start end)) are.stated
-    between.are.stated (subst (λ l. AllZip States l are.stated) cut.1 are.each)
-    between.are.each in
+    between.are.stated (subst (λ l. AllZip States l are.stated) cut.1 are.each) between.are.each in
     record {
       stated = all.0;
       each = subst (λ l. AllZip States l all.0) (sym cut.2) all.1;
-      same = map-append entry_of before after
-          ∙ ap (λ l. l ++ entries_of after) are.same
+      same = map-append entry_of before after ∙ ap (λ l. l ++ entries_of after) are.same
           ∙ ap (λ l. numbered_from 1 are.stated ++ l) between.are.same
           ∙ ap (λ n. numbered_from 1 are.stated ++ numbered_from (1 + n) between.are.stated)
-          (sym cut.3)
-          ∙ sym all.2;
-    })
-    (λ (past : length text ≤ start).
+          (sym cut.3) ∙ sym all.2;
+    }) (λ (past : length text ≤ start).
     let same : start ≡ end = omega (arith, between.order, between.until.within) in
-    let piece : slice_range text start end ≡ [] =
-    ap (take (end - start)) (drop_all start text past)
+    let piece : slice_range text start end ≡ [] = ap (take (end - start)) (drop_all start text past)
     ∙ take_all (end - start) [] (omega arith) in
-    let none : entries_of after ≡ [] =
-    none_stated (line_at text start) (entries_of after)
+    let none : entries_of after ≡ [] = none_stated (line_at text start) (entries_of after)
     (subst (λ l. AreStatedFrom (line_at text start) (lines l) (entries_of after)) piece
     between.are) in
     subst (λ n. AreStated (lines (take n text)) (entries_of (before ++ after))) same
-    (subst (AreStated (lines (take start text)))
-    (sym (append-nil (entries_of before))
-    ∙ ap (λ l. entries_of before ++ l) (sym none)
-    ∙ sym (map-append entry_of before after)) are))
+    (subst (AreStated (lines (take start text))) (sym (append-nil (entries_of before))
+    ∙ ap (λ l. entries_of before ++ l) (sym none) ∙ sym (map-append entry_of before after)) are))
     (cases_lt start (length text))
 
 -- the line feeds before a place and up to another
-pub feeds_up_to : (text : List ℕ) (start end : ℕ) → start ≤ end
-    → count_by ends_line (take end text)
+pub feeds_up_to : (text : List ℕ) (start end : ℕ) → start ≤ end → count_by ends_line (take end text)
     ≡ count_by ends_line (take start text) + count_by ends_line (slice_range text start end)
 feeds_up_to text start end le =
     let whole = sum_by-take-drop (λ y. cond (ends_line y) 1 0) (take end text) start in
@@ -144,8 +123,7 @@ joined_push xs x = flat_map-append (λ own. own.stated.items) xs (x ∷ [])
 
 pub joined_more : (xs : List Stretch) (i : ℕ) (x : Stretch) → i < length xs → x ≡ get_or xs i x
     → joined (take (i + 1) xs) ≡ joined (take i xs) ++ x.stated.items
-joined_more xs i x h e =
-    ap joined (take_more xs i x h ∙ ap (λ y. take i xs ++ y ∷ []) (sym e))
+joined_more xs i x h e = ap joined (take_more xs i x h ∙ ap (λ y. take i xs ++ y ∷ []) (sym e))
     ∙ joined_push (take i xs) x
 
 pub joined_at : (xs : List Stretch) (i : ℕ) (x : Stretch) → slice_get xs i ≡ Some x
@@ -157,8 +135,7 @@ joined_at (y ∷ xs) (suc i) x e =
     let rest = joined_at xs i x e in
     let more : suc i + 1 ≡ suc (i + 1) = omega arith in (
       omega (arith, rest.0),
-      ap (λ n. joined (take n (y ∷ xs))) more
-          ∙ ap (λ l. y.stated.items ++ l) rest.1
+      ap (λ n. joined (take n (y ∷ xs))) more ∙ ap (λ l. y.stated.items ++ l) rest.1
           ∙ sym (append_assoc y.stated.items (joined (take i xs)) x.stated.items),
     )
 
@@ -180,16 +157,14 @@ reads_grown xs ys = ap length (reads_append xs ys) ∙ length-append (reads_in x
 -- the stretches before a place, the one at it, and those behind it
 pub joined_parts : (xs : List Stretch) (i : ℕ) (x : Stretch) → i < length xs → x ≡ get_or xs i x
     → joined xs ≡ joined (take i xs) ++ (x.stated.items ++ joined (drop (i + 1) xs))
-joined_parts xs i x h e =
-    ap joined (sym (take-append-drop (i + 1) xs))
+joined_parts xs i x h e = ap joined (sym (take-append-drop (i + 1) xs))
     ∙ flat_map-append (λ own. own.stated.items) (take (i + 1) xs) (drop (i + 1) xs)
     ∙ ap (λ l. l ++ joined (drop (i + 1) xs)) (joined_more xs i x h e)
     ∙ append_assoc (joined (take i xs)) x.stated.items (joined (drop (i + 1) xs))
 
 -- the names of a stretch stand behind the names of those before it
 pub names_at : (ns : List Name) (xs : List Stretch) (i first : ℕ) (x : Stretch) → i < length xs
-    → x ≡ get_or xs i x → ns ≡ names_in (joined xs)
-    → first ≡ length (names_in (joined (take i xs)))
+    → x ≡ get_or xs i x → ns ≡ names_in (joined xs) → first ≡ length (names_in (joined (take i xs)))
     → AreNamesFrom ns first (names_in x.stated.items)
 names_at ns xs i first x h e all place = (
   names_in (joined (take i xs)),
@@ -205,13 +180,12 @@ names_at ns xs i first x h e all place = (
 pub names_within : (xs : List Stretch) (i : ℕ) (x : Stretch) → i < length xs → x ≡ get_or xs i x
     → length (names_in (joined (take i xs))) + length (names_in x.stated.items)
     ≤ length (names_in (joined xs))
-names_within xs i x h e =
-    omega (
-      arith,
-      ap (λ l. length (names_in l)) (joined_parts xs i x h e),
-      names_grown (joined (take i xs)) (x.stated.items ++ joined (drop (i + 1) xs)),
-      names_grown x.stated.items (joined (drop (i + 1) xs)),
-    )
+names_within xs i x h e = omega (
+  arith,
+  ap (λ l. length (names_in l)) (joined_parts xs i x h e),
+  names_grown (joined (take i xs)) (x.stated.items ++ joined (drop (i + 1) xs)),
+  names_grown x.stated.items (joined (drop (i + 1) xs)),
+)
 
 -- ---- numbered lines that are one after another
 
@@ -219,8 +193,7 @@ pub numbered_append : (ns : List Name) (xs ys : List StatedLine) (ls ms : List N
     → AreNumberedLines ns xs ls → AreNumberedLines ns ys ms
     → AreNumberedLines ns (xs ++ ys) (ls ++ ms)
 numbered_append ns xs ys ls ms first next = record {
-  stand = map-append (statement_of ns) ls ms
-      ∙ ap (λ l. l ++ statements_of ns ms) first.stand
+  stand = map-append (statement_of ns) ls ms ∙ ap (λ l. l ++ statements_of ns ms) first.stand
       ∙ ap (λ l. statements_in xs ++ l) next.stand
       ∙ sym (map-append (λ line. stands_for line.statement) xs ys);
   in_range = subst (All (λ number. number < length ns)) (sym (flat_map-append numbers ls ms))
@@ -230,16 +203,13 @@ numbered_append ns xs ys ls ms first next = record {
 
 pub line_numbers_append : (xs ys : List StatedLine)
     → line_numbers_in (xs ++ ys) ≡ line_numbers_in xs ++ line_numbers_in ys
-line_numbers_append xs ys =
-    ap (map (λ line. line.number))
+line_numbers_append xs ys = ap (map (λ line. line.number))
     (filter-append (λ line. defines (stands_for line.statement)) xs ys)
-    ∙ map-append (λ line. line.number)
-    (filter (λ line. defines (stands_for line.statement)) xs)
+    ∙ map-append (λ line. line.number) (filter (λ line. defines (stands_for line.statement)) xs)
     (filter (λ line. defines (stands_for line.statement)) ys)
 
 -- ---- the numbers of names of stretches
 
 pub counted_at : (xs : List Stretch) (i : ℕ) (x : Stretch) → AreCounted xs → i < length xs
     → x ≡ get_or xs i x → IsCounted x
-counted_at xs i x all h e =
-    subst IsCounted (sym e) (All-get_or IsCounted xs i x h all)
+counted_at xs i x all h e = subst IsCounted (sym e) (All-get_or IsCounted xs i x h all)

@@ -1,16 +1,11 @@
 -- Lists whose elements stand in an order, tests that some element passes, and counts.
 use Rattle.std.proofs.Common.{◌≡◌, ◌<◌, ◌≤◌, ◌+◌, ◌∙◌, ℕ, zero, suc, Bool, true, false, cond, ◌&&◌}
 use Rattle.std.proofs.Common.{◌||◌, refl, sym, ap, subst, List, [], ◌∷◌, ◌++◌, length, arith, inl}
-use Rattle.std.proofs.Common.{inr}
-use Rattle.std.proofs.Common.{get_or, map, set, not, drop}
+use Rattle.std.proofs.{Common.{inr, get_or, map, set, not, drop}, lemmas.Bool.or_parts}
 use Rattle.std.specs.Prelude.{AllPairs, Option, Some, None, count_by, slice_get, unwrap_or, zip}
-use Rattle.std.specs.List.{list_any, position_or_len}
-use Rattle.std.proofs.lemmas.Bool.{or_parts}
-use Rattle.std.proofs.lemmas.List.Elements.{Contains-get_or}
-use Rattle.std.proofs.lemmas.List.Kept.{AllPairs-cons}
-use Rattle.std.proofs.lemmas.List.Sums.{sum_by-cons}
-use Rattle.list_lemmas.proofs.Distinct.{Distinct}
-use Rattle.list_lemmas.proofs.Members.{Among, among, contained}
+use Rattle.std.{specs.List.{list_any, position_or_len}, proofs.lemmas.List.Elements.Contains-get_or}
+use Rattle.std.proofs.lemmas.List.{Kept.AllPairs-cons, Sums.sum_by-cons}
+use Rattle.list_lemmas.proofs.{Distinct.Distinct, Members.{Among, among, contained}}
 use Rattle.list_lemmas.proofs.Places.{at_place}
 
 -- ---- orders
@@ -130,8 +125,7 @@ first_last {X} t (x ∷ xs) y e h =
 pub first_same : {X : Type 0} (t : X → Bool) (xs : List X) (y z : X) → t y ≡ t z
     → position_or_len t (xs ++ y ∷ []) ≡ position_or_len t (xs ++ z ∷ [])
 first_same t [] y z e = ap (λ b. cond (not b) (1 + 0) 0) e
-first_same t (x ∷ xs) y z e =
-    ap (λ n. cond (not (t x)) (1 + n) 0) (first_same t xs y z e)
+first_same t (x ∷ xs) y z e = ap (λ n. cond (not (t x)) (1 + n) 0) (first_same t xs y z e)
 
 -- ---- counts
 
@@ -186,8 +180,7 @@ flagged_within {X} t (x ∷ xs) (f ∷ fs) =
 pub mapped_same : {X Y : Type 0} (f g : X → Y) (xs : List X)
     → ((x : X) → Among x xs → f x ≡ g x) → map f xs ≡ map g xs
 mapped_same f g [] same = refl
-mapped_same f g (x ∷ xs) same =
-    ap (λ y. y ∷ map f xs) (same x (inl refl))
+mapped_same f g (x ∷ xs) same = ap (λ y. y ∷ map f xs) (same x (inl refl))
     ∙ ap (λ ys. g x ∷ ys) (mapped_same f g xs (λ z a. same z (inr a)))
 
 -- a write at the place of the one element at which two functions differ
@@ -200,8 +193,7 @@ mapped_set f g (x ∷ xs) zero p d e same =
     ap (λ z. g z ∷ map f xs) (sym own)
     ∙ ap (λ ys. g x ∷ ys) (mapped_same f g xs (λ z a. same z (inr a)
     (λ h. d.0 (subst (λ w. Among w xs) (h ∙ sym own) a))))
-mapped_set f g (x ∷ xs) (suc i) p d e same =
-    ap (λ y. y ∷ set (map f xs) i (g p)) (same x (inl refl)
+mapped_set f g (x ∷ xs) (suc i) p d e same = ap (λ y. y ∷ set (map f xs) i (g p)) (same x (inl refl)
     (λ h. d.0 (subst (λ w. Among w xs) (sym h) (at_place xs i p e))))
     ∙ ap (λ ys. g x ∷ ys) (mapped_set f g xs i p d.1 e (λ z a. same z (inr a)))
 

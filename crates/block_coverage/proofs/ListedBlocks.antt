@@ -1,15 +1,11 @@
 -- The blocks of names, as one more name comes and grows byte by byte.
-use Rattle.std.proofs.Common.{◌≡◌, ◌∙◌, ℕ, Bool, true, false, ◌||◌, refl, sym}
-use Rattle.std.proofs.Common.{ap, subst, List, [], ◌∷◌, ◌++◌, length, arith, inl, inr, get_or}
-use Rattle.std.specs.Prelude.{◌==◌, AllPairs, Contains, bytes_eq}
-use Rattle.std.specs.List.{list_any}
-use Rattle.std.proofs.lemmas.Bool.{cases_Bool}
+use Rattle.std.proofs.Common.{◌≡◌, ◌∙◌, ℕ, Bool, true, false, ◌||◌, refl, sym, ap, subst, List, []}
+use Rattle.std.{proofs.Common.{◌∷◌, ◌++◌, length, arith, inl, inr, get_or}, specs.List.list_any}
+use Rattle.std.{specs.Prelude.{◌==◌, AllPairs, Contains, bytes_eq}, proofs.lemmas.Bool.cases_Bool}
 use Rattle.std.proofs.lemmas.List.Elements.{All-contains, Contains-get_or}
-use Rattle.bench_net.specs.Statement.{Name}
-use Rattle.bench_net.proofs.Public.{bytes_refl, same_bytes}
-use Rattle.list_lemmas.proofs.Distinct.{Distinct}
+use Rattle.bench_net.{specs.Statement.Name, proofs.Public.{bytes_refl, same_bytes}}
+use Rattle.list_lemmas.proofs.{Distinct.Distinct, Members.{among_right, among_append}}
 use Rattle.list_lemmas.proofs.Members.{Among, among, contained, some_passes, among_left}
-use Rattle.list_lemmas.proofs.Members.{among_right, among_append}
 use Rattle.block_coverage.specs.Blocks.{AreBlocks, ComesBefore, IsBlockOf, first_fault, is_in_block}
 use Rattle.block_coverage.specs.Tallies.{AreListed}
 use Rattle.block_coverage.proofs.InBlock.{block_from, in_block, in_ended, in_nothing, in_other}
@@ -124,19 +120,16 @@ module _ (s : ℕ) (names blocks : List Name) (p : Name)
 
   -- the name so far is a block of an earlier name or of none
   earlier_only : (t : Bool) → in_some s (names ++ p ∷ []) p ≡ t → in_some s names p ≡ t
-  earlier_only t e =
-      sym (or_nothing (in_some s names p))
+  earlier_only t e = sym (or_nothing (in_some s names p))
       ∙ (ap (λ u. in_some s names p || u) (sym (not_itself s p))
       ∙ (sym (any_push (is_in_block s p) names p) ∙ e))
 
-  pub in_ended_other : (b : Name) → bytes_eq b p ≡ false
-      → is_in_block s b ended ≡ is_in_block s b p
+  pub in_ended_other : (b : Name) → bytes_eq b p ≡ false → is_in_block s b ended ≡ is_in_block s b p
   in_ended_other b ne =
       in_ended s b p ∙ (ap (λ t. is_in_block s b p || t) ne ∙ or_nothing (is_in_block s b p))
 
   pub in_ended_own : is_in_block s p ended ≡ true
-  in_ended_own = in_ended s p p
-      ∙ (ap (λ t. t || bytes_eq p p) (not_itself s p) ∙ bytes_refl p)
+  in_ended_own = in_ended s p p ∙ (ap (λ t. t || bytes_eq p p) (not_itself s p) ∙ bytes_refl p)
 
   some_other : (b : Name) → bytes_eq b p ≡ false
       → in_some s (names ++ ended ∷ []) b ≡ in_some s (names ++ p ∷ []) b
@@ -170,14 +163,11 @@ module _ (s : ℕ) (names blocks : List Name) (p : Name)
         | inl on ↦ subst (λ q. in_some s (names ++ ended ∷ []) q ≡ in_some s (names ++ p ∷ []) q)
             (sym (same_bytes b p on)) (some_own ∙ sym (listed.has p a))
         | inr off ↦ some_other b off
-      ])
-      (λ b e. elim (cases_Bool (bytes_eq b p)) [
+      ]) (λ b e. elim (cases_Bool (bytes_eq b p)) [
         | inl on ↦ subst (λ q. first_fault s (names ++ ended ∷ []) q
-            ≡ first_fault s (names ++ p ∷ []) q)
-            (sym (same_bytes b p on)) (first_own there)
+            ≡ first_fault s (names ++ p ∷ []) q) (sym (same_bytes b p on)) (first_own there)
         | inr off ↦ first_other b off
-      ])
-      listed
+      ]) listed
 
   module _ (new : Among p blocks → ⊥) where
     apart : (b : Name) → Among b blocks → bytes_eq b p ≡ false
@@ -231,6 +221,5 @@ module _ (s : ℕ) (names blocks : List Name) (p : Name)
       order = ordered_push (ComesBefore s (names ++ ended ∷ [])) blocks p
           (reordered (ComesBefore s (names ++ p ∷ [])) (ComesBefore s (names ++ ended ∷ [])) blocks
           (λ a b x y before. earlier s (names ++ p ∷ []) (names ++ ended ∷ []) a b
-          (first_other a (apart a x)) (first_other b (apart b y)) before) listed.order)
-          last;
+          (first_other a (apart a x)) (first_other b (apart b y)) before) listed.order) last;
     }

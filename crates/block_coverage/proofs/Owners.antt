@@ -2,20 +2,13 @@
 use Rattle.std.proofs.Common.{◌≡◌, ◌∙◌, ℕ, refl, ap, List, ◌<◌, ◌-◌, ◌^◌, length, arith}
 use Rattle.std.specs.Prelude.{Contains, Option, Some, None, map, option_map, slice_get}
 use Rattle.std.proofs.lemmas.Option.{slice_get-map}
-use Rattle.bench_net.specs.Statement.{Name, Statement}
-use Rattle.bench_net.specs.Scan.{cells, definition, name_of, names}
-use Rattle.bench_net.specs.Circuit.{IsCircuit, IsWellFormed}
-use Rattle.bench_net.proofs.Public.{definition_defines}
-use Rattle.fault_model.specs.declared.Line.{Line}
-use Rattle.fault_model.specs.declared.Line.TheVariants.{Stem, Pin, Data, Out}
-use Rattle.fault_model.specs.declared.Model.{Model}
-use Rattle.fault_model.specs.Detection.{argument, name_on}
-use Rattle.fault_model.specs.Fault.{Fault, faults}
-use Rattle.fault_model.proofs.Public.{carries, faults_within}
-use Rattle.list_lemmas.proofs.Members.{contained}
-use Rattle.list_lemmas.proofs.Places.{at_place}
-use Rattle.block_coverage.specs.Blocks.{owner}
-use Rattle.block_coverage.proofs.SignalNames.{q_named}
+use Rattle.bench_net.specs.{Statement.{Name, Statement}, Scan.{cells, definition, name_of, names}}
+use Rattle.bench_net.{specs.Circuit.{IsCircuit, IsWellFormed}, proofs.Public.definition_defines}
+use Rattle.fault_model.specs.declared.Line.{Line, TheVariants.{Stem, Pin, Data, Out}}
+use Rattle.fault_model.specs.{declared.Model.Model, Detection.{argument, name_on}}
+use Rattle.fault_model.{specs.Fault.{Fault, faults}, proofs.Public.{carries, faults_within}}
+use Rattle.list_lemmas.proofs.{Members.contained, Places.at_place}
+use Rattle.block_coverage.{specs.Blocks.owner, proofs.SignalNames.q_named}
 
 -- a gate with a pin has a name
 pin_owner : (c : List Statement) (gate pin : ℕ) (n : Name)
@@ -37,8 +30,7 @@ data_owner c i n e = go (slice_get (cells c) i) refl e
   where
     go : (o : Option (Name × Name)) → slice_get (cells c) i ≡ o
         → option_map (λ (qd : Name × Name). qd.1) o ≡ Some n
-        → (m : Name) × (slice_get (map (λ qd. qd.0) (cells c)) i ≡ Some m)
-        × Contains (names c) m
+        → (m : Name) × (slice_get (map (λ qd. qd.0) (cells c)) i ≡ Some m) × Contains (names c) m
     go None d e = let bad : None ≡ Some n = e in cc
     go (Some qd) d e = (
       qd.0,
@@ -47,8 +39,7 @@ data_owner c i n e = go (slice_get (cells c) i) refl e
     )
 
 -- each fault of the list has a name
-pub owned : (m : Model) (c : List Statement) (f : Fault) → IsWellFormed c
-    → Contains (faults m c) f
+pub owned : (m : Model) (c : List Statement) (f : Fault) → IsWellFormed c → Contains (faults m c) f
     → (n : Name) × (owner c f.line ≡ Some n) × Contains (names c) n
 owned m c f well at = let p = carries m c f well at in go f.line p.0 p.1 p.2
   where

@@ -3,17 +3,14 @@ use Rattle.std.proofs.Common.{◌≡◌, ◌<◌, ℕ, zero, suc, refl, ◌∙�
 use Rattle.std.proofs.Common.{drop}
 use Rattle.std.proofs.lemmas.Option.{get_or_from_slice_get, slice_get-map, slice_get_within}
 use Rattle.std.specs.Prelude.{Contains, Some, map, option_map, slice_get, slice_index_or}
-use Rattle.bench_net.specs.declared.ScanCell.{ScanCell}
-use Rattle.bench_net.specs.Statement.{Name, Statement, Dff}
+use Rattle.bench_net.specs.{declared.ScanCell.ScanCell, Statement.{Name, Statement, Dff}}
 use Rattle.bench_net.specs.Scan.{names, signal, cells, name_of}
 use Rattle.bench_net.proofs.Public.{defined_among, name_of-signal, of_cell}
-use Rattle.list_lemmas.proofs.Members.{contained}
-use Rattle.list_lemmas.proofs.Places.{at_place}
+use Rattle.list_lemmas.proofs.{Members.contained, Places.at_place}
 
 -- the element at a place of a list of numbers that is made of another list
 pub mapped_at : {X : Type 0} (f : X → ℕ) (xs : List X) (ys : List ℕ) (i : ℕ) (x : X)
-    → ys ≡ map f xs → slice_get xs i ≡ Some x
-    → (i < length ys) × (slice_index_or ys i 0 ≡ f x)
+    → ys ≡ map f xs → slice_get xs i ≡ Some x → (i < length ys) × (slice_index_or ys i 0 ≡ f x)
 mapped_at f xs ys i x e at =
     let there : slice_get ys i ≡ Some (f x) = ap (λ l. slice_get l i) e
     ∙ (slice_get-map f xs i ∙ ap (option_map f) at) in (

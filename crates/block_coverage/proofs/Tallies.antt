@@ -2,26 +2,19 @@
 use Rattle.std.proofs.Common.{◌≡◌, ◌≤◌, ◌+◌, ◌∙◌, ℕ, Bool, true, false, cond, ◌&&◌, ◌||◌, refl, sym}
 use Rattle.std.proofs.Common.{ap, subst, List, [], ◌∷◌, ◌++◌, length, arith, map, set}
 use Rattle.std.specs.Prelude.{◌==◌, Some, bytes_eq, count_by, option_map, slice_get, zip}
-use Rattle.std.specs.Borrow.{Bor}
-use Rattle.std.specs.List.{list_any}
-use Rattle.std.proofs.lemmas.Bool.{both_ways, false_from_ne_true}
-use Rattle.std.proofs.lemmas.List.{map_push}
+use Rattle.std.{specs.Borrow.Bor, specs.List.list_any, proofs.lemmas.List.map_push}
+use Rattle.std.proofs.lemmas.{Bool.{both_ways, false_from_ne_true}, Option.slice_get-map}
 use Rattle.std.proofs.lemmas.List.Sums.{count_by-le-length, sum_by_push}
-use Rattle.std.proofs.lemmas.Option.{slice_get-map}
-use Rattle.bench_net.specs.Statement.{Name}
-use Rattle.bench_net.proofs.Public.{bytes_refl, same_bytes}
-use Rattle.list_lemmas.proofs.Members.{Among, among, some_passes}
-use Rattle.list_lemmas.proofs.Places.{from_mapped}
+use Rattle.bench_net.{specs.Statement.Name, proofs.Public.{bytes_refl, same_bytes}}
+use Rattle.list_lemmas.proofs.{Members.{Among, among, some_passes}, Places.from_mapped}
 use Rattle.block_coverage.specs.Blocks.{BlockCells, block_cells, is_in_block}
-use Rattle.block_coverage.specs.declared.tally.Tally.{Tally}
-use Rattle.block_coverage.specs.Tallies.{IsTally, names_at}
+use Rattle.block_coverage.specs.{declared.tally.Tally.Tally, Tallies.{IsTally, names_at}}
 use Rattle.block_coverage.proofs.InBlock.{in_nothing, in_other, not_itself}
 use Rattle.block_coverage.proofs.ListOrders.{any_of, flagged_within, mapped_same, mapped_set}
 use Rattle.block_coverage.proofs.ListOrders.{none_counted, zip_push}
 use Rattle.block_coverage.proofs.ListedBlocks.{Listed, distinct_blocks, in_ended_other}
-use Rattle.block_coverage.proofs.ListedBlocks.{in_ended_own}
-use Rattle.block_coverage.proofs.ListedBlocks.{in_some, listed_are, listed_from, fresh}
-use Rattle.block_coverage.proofs.ListedBlocks.{listed_next, listed_other}
+use Rattle.block_coverage.proofs.ListedBlocks.{in_ended_own, in_some, listed_are, listed_from}
+use Rattle.block_coverage.proofs.ListedBlocks.{fresh, listed_next, listed_other}
 
 -- ---- the keys of a set of names
 
@@ -71,8 +64,7 @@ module _ (s : ℕ) (names : List Name) (flags : List Bool) (f : Bool)
       → with_name p b ≡ with_name q b
   cells_same p q b same = cells_push p b
       ∙ (ap (λ t. made b ((block_cells s names flags b).detected + cond (t && f) 1 0)
-      ((block_cells s names flags b).faults + cond t 1 0)) same
-      ∙ sym (cells_push q b))
+      ((block_cells s names flags b).faults + cond t 1 0)) same ∙ sym (cells_push q b))
 
   -- a name of no bytes is in no block
   pub cells_next : (b : Name) → with_name [] b ≡ block_cells s names flags b
@@ -153,25 +145,20 @@ module _ (s : ℕ) (names : List Name) (flags : List Bool) (f : Bool)
           (sym (in_ended_other s names blocks p listed b (differ b ne)))
 
       -- the row of a block that has one
-      pub rows_again : (i : ℕ) → slice_get blocks i ≡ Some p
-          → set (map (with_name p) blocks) i
+      pub rows_again : (i : ℕ) → slice_get blocks i ≡ Some p → set (map (with_name p) blocks) i
           (made p ((with_name p p).detected + cond f 1 0) ((with_name p p).faults + 1))
           ≡ map (with_name (p ++ s ∷ [])) blocks
-      rows_again i at =
-          ap (set (map (with_name p) blocks) i)
+      rows_again i at = ap (set (map (with_name p) blocks) i)
           (sym (cells_ended p (in_ended_own s names blocks p listed)))
           ∙ mapped_set (with_name p) (with_name (p ++ s ∷ [])) blocks i p
           (distinct_blocks s (names ++ p ∷ []) blocks listed) at ended_same
 
       -- a new row
-      pub rows_new : (Among p blocks → ⊥)
-          → map (with_name p) blocks ++ made p (cond f 1 0) 1 ∷ []
+      pub rows_new : (Among p blocks → ⊥) → map (with_name p) blocks ++ made p (cond f 1 0) 1 ∷ []
           ≡ map (with_name (p ++ s ∷ [])) (blocks ++ p ∷ [])
-      rows_new new =
-          ap (λ l. map (with_name p) blocks ++ l ∷ [])
+      rows_new new = ap (λ l. map (with_name p) blocks ++ l ∷ [])
           (sym (cells_fresh p (in_ended_own s names blocks p listed)
-          (fresh s names blocks p listed new)))
-          ∙ (ap (λ l. l ++ with_name (p ++ s ∷ []) p ∷ [])
+          (fresh s names blocks p listed new))) ∙ (ap (λ l. l ++ with_name (p ++ s ∷ []) p ∷ [])
           (mapped_same (with_name p) (with_name (p ++ s ∷ [])) blocks
           (λ b a. ended_same b a (λ e. new (subst (λ q. Among q blocks) e a))))
           ∙ sym (map_push (with_name (p ++ s ∷ [])) blocks p))

@@ -1,27 +1,19 @@
 -- The facts in words in another order are true of the original circuit.
-use Rattle.std.proofs.Common.{◌≡◌, ◌+◌, ◌*◌, ℕ, sym, ◌∙◌, ap, Bool, List, []}
-use Rattle.std.proofs.Common.{◌∷◌, refl, inl, inr, length}
-use Rattle.std.specs.Prelude.{Contains, None, Some, map, slice_index_or}
-use Rattle.bench_net.specs.declared.Sink.{Sink}
-use Rattle.bench_net.specs.Statement.{Name, Statement}
+use Rattle.std.proofs.Common.{◌≡◌, ◌+◌, ◌*◌, ℕ, sym, ◌∙◌, ap, Bool, List, [], ◌∷◌, refl, inl, inr}
+use Rattle.std.{proofs.Common.length, specs.Prelude.{Contains, None, Some, map, slice_index_or}}
+use Rattle.bench_net.specs.{declared.Sink.Sink, Statement.{Name, Statement}, Circuit.IsWellFormed}
 use Rattle.bench_net.specs.Scan.{names, observers, signal}
-use Rattle.bench_net.specs.Circuit.{IsWellFormed}
 use Rattle.patterns.specs.Tests.{TestList}
-use Rattle.fault_model.specs.Fault.{Fault}
-use Rattle.fault_model.specs.Solution.{Solves, Test, shows}
+use Rattle.fault_model.specs.{Fault.Fault, Solution.{Solves, Test, shows}}
 use Rattle.fault_model.specs.Reordered.{moved_fault, place}
 use Rattle.fault_model.proofs.Public.{detected_same_at, looks_back_same, solved_same}
 use Rattle.list_lemmas.proofs.Members.{Among}
-use Rattle.flat_circuit.specs.Arranged.{IsArranged}
-use Rattle.block_sim.specs.Flips.{AreLanesFor}
-use Rattle.block_sim.specs.First.{AreDetectingLanes}
-use Rattle.flat_circuit.specs.BlockSpans.{group_of}
+use Rattle.flat_circuit.specs.{Arranged.IsArranged, BlockSpans.group_of}
 use Rattle.flat_circuit.specs.declared.block_span.BlockSpan.{BlockSpan}
-use Rattle.block_sim.specs.Propagation.{AreShown}
-use Rattle.block_sim.specs.Responses.{AreResponses}
 use Rattle.flat_circuit.specs.Words.{AreWords, IsFaultFreeWord}
-use Rattle.block_sim.proofs.EndOfPropagation.{told_of_shown}
 use Rattle.flat_circuit.proofs.Public.{observed_named, reordered, signals_there, well_there}
+use Rattle.block_sim.specs.{Flips.AreLanesFor, First.AreDetectingLanes, Propagation.AreShown}
+use Rattle.block_sim.{specs.Responses.AreResponses, proofs.EndOfPropagation.told_of_shown}
 
 module _ (c d : List Statement) (well : IsWellFormed c) (arranged : IsArranged c d) where
   solved : (t : Test) (v : Name → Bool) → Solves c t None v → Solves d t None v

@@ -1,23 +1,17 @@
 -- The way of a fault to the stem of a region: it leads from gate to gate, a level higher at each. A
 -- fault at a signal that is not live is not detected.
-use Rattle.std.proofs.Common.{◌≡◌, ◌≢◌, ◌<◌, ◌≤◌, ℕ, ◌+◌, Bool, refl, sym, ◌∙◌, subst, List}
-use Rattle.std.proofs.Common.{inr, ◌⊎◌}
-use Rattle.std.specs.Prelude.{Contains, Some, None}
-use Rattle.bench_net.specs.declared.Kind.{Kind}
-use Rattle.bench_net.specs.declared.Sink.{Sink}
-use Rattle.bench_net.specs.Statement.{Name, Statement, Gate}
-use Rattle.bench_net.specs.Scan.{names, signal, observers}
-use Rattle.bench_net.specs.Circuit.{IsWellFormed}
+use Rattle.std.proofs.Common.{◌≡◌, ◌≢◌, ◌<◌, ◌≤◌, ℕ, ◌+◌, Bool, refl, sym, ◌∙◌, subst, List, inr}
+use Rattle.std.{proofs.Common.◌⊎◌, specs.Prelude.{Contains, Some, None}}
+use Rattle.bench_net.specs.{declared.Kind.Kind, declared.Sink.Sink, Scan.{names, signal, observers}}
+use Rattle.bench_net.specs.{Statement.{Name, Statement, Gate}, Circuit.IsWellFormed}
 use Rattle.list_lemmas.proofs.Members.{Among, among, contained}
 use Rattle.fault_model.specs.declared.Line.TheVariants as line
-use Rattle.fault_model.specs.Fault.{branch}
-use Rattle.fault_model.specs.Solution.{Test, Solves, shows}
-use Rattle.fault_model.proofs.Public.{detection_is_of_any_solution, has_solutions}
-use Rattle.fault_model.proofs.Public.{under_other, observes}
+use Rattle.fault_model.specs.{Fault.branch, Solution.{Test, Solves, shows}}
+use Rattle.fault_model.proofs.Public.{detection_is_of_any_solution, has_solutions, under_other}
+use Rattle.fault_model.proofs.Public.{observes}
 use Rattle.flat_circuit.specs.Readers.{IsLive, observed, through}
 use Rattle.flat_circuit.specs.Regions.{IsStem, LeadsTo, here, lone_reader, onward}
-use Rattle.block_sim.specs.Flips.{DetectsFlip, flip}
-use Rattle.block_sim.proofs.EnteredGates.{IsFree, same_where}
+use Rattle.block_sim.{specs.Flips.{DetectsFlip, flip}, proofs.EnteredGates.{IsFree, same_where}}
 
 -- from the one reader of a signal the way to the stem goes on
 pub leads_on : (c : List Statement) {s r : ℕ} (g : ℕ) → IsStem c r → lone_reader c s ≡ Some g
@@ -43,17 +37,16 @@ module _ (c : List Statement) (well : IsWellFormed c) (t : Test) (s : ℕ) (dead
     kept m a live = inr (
       tt,
       (away m live, λ pin e. cc),
-      λ kind args stands x h.
-          through (record {
-            name = m;
-            kind = kind;
-            args = args;
-            read = x;
-            gate = contained c (Gate m kind args) stands;
-            number = refl;
-            reads = contained args x h;
-            of = refl;
-          }) live,
+      λ kind args stands x h. through (record {
+        name = m;
+        kind = kind;
+        args = args;
+        read = x;
+        gate = contained c (Gate m kind args) stands;
+        number = refl;
+        reads = contained args x h;
+        of = refl;
+      }) live,
     )
 
     unseen : (o : Sink × Name) → Contains (observers c) o

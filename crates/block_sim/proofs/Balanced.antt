@@ -1,24 +1,18 @@
 -- Event-driven simulation: the equation of each signal that counts and does not wait holds, and one
 -- evaluation keeps this.
 use Rattle.std.proofs.Common.{◌≡◌, ◌≢◌, ◌<◌, ℕ, refl, sym, ◌∙◌, ap, subst, true, List, length}
-use Rattle.std.proofs.Common.{arith, set, inl, inr, ◌⊎◌}
+use Rattle.std.proofs.{Common.{arith, set, inl, inr, ◌⊎◌}, lemmas.Bool.cases_eq}
 use Rattle.std.specs.Prelude.{Some, None, slice_index_or, bit_xor}
 use Rattle.std.proofs.lemmas.List.{get_or-set_same, get_or-set_other}
-use Rattle.std.proofs.lemmas.Bool.{cases_eq}
-use Rattle.bench_net.specs.declared.Kind.{Kind}
-use Rattle.bench_net.specs.Statement.{Name, Statement}
-use Rattle.bench_net.specs.Scan.{signal, gate_of}
+use Rattle.bench_net.specs.{declared.Kind.Kind, Statement.{Name, Statement}, Scan.{signal, gate_of}}
 use Rattle.bench_net.specs.Circuit.{IsWellFormed}
-use Rattle.fault_model.specs.Fault.{Fault}
-use Rattle.fault_model.specs.Solution.{Test, Solves, value}
+use Rattle.fault_model.specs.{Fault.Fault, Solution.{Test, Solves, value}}
 use Rattle.flat_circuit.specs.Words.{lane, lane_bits, pin_bits, test_of, AreWords}
-use Rattle.flat_circuit.specs.Readers.{Reads, IsLive}
+use Rattle.flat_circuit.{specs.Readers.{Reads, IsLive}, proofs.Public.lane_same}
 use Rattle.block_sim.specs.Events.{bits_of, HasEquation, IsElsewhere, AreScheduled}
-use Rattle.block_sim.specs.Propagation.{IsBalanced}
-use Rattle.flat_circuit.proofs.Public.{lane_same}
+use Rattle.block_sim.{specs.Propagation.IsBalanced, proofs.SignalEquations.word_other}
 use Rattle.block_sim.proofs.SignalEquations.{each_equation, all_equations, equation_same}
 use Rattle.block_sim.proofs.SignalEquations.{equation_elsewhere, equation_kept, equation_here}
-use Rattle.block_sim.proofs.SignalEquations.{word_other}
 
 module _ (c : List Statement) (counts : ℕ → Type 0) (tests : List Test) (group : ℕ) (f : ℕ
     → Fault) (good : List ℕ) (mask : ℕ) where
@@ -71,8 +65,7 @@ module _ (c : List Statement) (counts : ℕ → Type 0) (tests : List Test) (gro
           here : HasEquation c (test_of tests group k) (Some (f k))
               (bits_of c good (set delta g diff) k) g
           here = equation_here c (test_of tests group k) (f k) good delta (set delta g diff) g k
-              kind
-              pins well (off k) loop is (λ t ne. word_other good delta g diff t k ne)
+              kind pins well (off k) loop is (λ t ne. word_other good delta g diff t k ne)
               (ap (λ d. lane (bit_xor (slice_index_or good g 0) d) k)
               (get_or-set_same delta g diff 0 within) ∙ (changed k lt in_mask ∙ valued k lt))
 
@@ -90,8 +83,7 @@ module _ (c : List Statement) (counts : ℕ → Type 0) (tests : List Test) (gro
           go (inl e) = subst (HasEquation c (test_of tests group k) (Some (f k))
               (bits_of c good (set delta g diff) k)) (sym e) here
           go (inr ne) = equation_kept c (test_of tests group k) (Some (f k)) good delta g diff s k
-              ne
-              (λ r. scheduled.readers s r (live s is_counted r) idle)
+              ne (λ r. scheduled.readers s r (live s is_counted r) idle)
               (balanced s k is_counted (before ne) lt in_mask)
 
   -- ---- the line of the fault
@@ -113,13 +105,10 @@ module _ (c : List Statement) (counts : ℕ → Type 0) (tests : List Test) (gro
   pub balanced_first : (delta at after : List ℕ) (s diff : ℕ)
       → AreWords c tests group None good → ((t : ℕ) → slice_index_or delta t 0 ≡ 0)
       → ((t k : ℕ) → t ≢ s → IsElsewhere (f k) t) → ((t : ℕ) → counts t → Reads c t s → IsLive c t)
-      → AreScheduled c s at after
-      → ((k : ℕ) → k < 128 → lane mask k ≡ true
-      → HasEquation c (test_of tests group k) (Some (f k)) (bits_of c good (set delta s diff) k)
-      s)
+      → AreScheduled c s at after → ((k : ℕ) → k < 128 → lane mask k ≡ true
+      → HasEquation c (test_of tests group k) (Some (f k)) (bits_of c good (set delta s diff) k) s)
       → IsBalanced c counts tests group f good mask (set delta s diff) after
-  balanced_first delta at after s diff words clear off live scheduled holds t k is_counted idle
-      lt
+  balanced_first delta at after s diff words clear off live scheduled holds t k is_counted idle lt
       in_mask = go (cases_eq t s)
     where
       go : (t ≡ s) ⊎ (t ≢ s) → HasEquation c (test_of tests group k) (Some (f k))

@@ -1,31 +1,22 @@
 -- The fault-free words have the bit of a line under each test of their group.
 use Rattle.std.proofs.Common.{◌≡◌, ◌<◌, ◌+◌, ◌*◌, ◌-◌, ◌/◌, ◌^◌, ◌&&◌, ◌⊎◌, inl, inr, not, ℕ, zero}
 use Rattle.std.proofs.Common.{suc, arith, length, refl, false, true, sym, ◌∙◌, ap, subst, Bool}
-use Rattle.std.proofs.Common.{List}
+use Rattle.std.{proofs.Common.List, specs.Prelude.bit_and, specs.Int.{bit_not, w128}}
 use Rattle.std.specs.Prelude.{◌↔◌, ◌==◌, Contains, [], Some, None, unwrap_or, slice_index_or}
-use Rattle.std.specs.Prelude.{bit_and}
-use Rattle.std.specs.Int.{bit_not, w128}
-use Rattle.std.specs.Bool.{Decides}
-use Rattle.std.proofs.lemmas.Bool.{false≢true}
+use Rattle.std.{specs.Bool.Decides, proofs.lemmas.Bool.false≢true}
 use Rattle.std.proofs.lemmas.Nat.Bits.{bit_at-suc}
-use Rattle.bench_net.specs.Statement.{Name, Statement}
-use Rattle.bench_net.specs.Scan.{names, signal, name_of}
-use Rattle.bench_net.specs.Circuit.{IsWellFormed}
-use Rattle.fault_model.specs.declared.Line.{Line}
-use Rattle.fault_model.specs.Solution.{Test, Solves}
-use Rattle.fault_model.specs.Detection.{name_on, HasBit, IsInitialized}
-use Rattle.fault_model.proofs.Public.{agree}
-use Rattle.bench_net.proofs.Public.{signal-name_of}
-use Rattle.list_lemmas.proofs.Members.{contained}
-use Rattle.list_lemmas.proofs.Places.{at_place, within_place}
+use Rattle.bench_net.specs.{Statement.{Name, Statement}, Scan.{names, signal, name_of}}
+use Rattle.bench_net.{specs.Circuit.IsWellFormed, proofs.Public.signal-name_of}
+use Rattle.fault_model.specs.{declared.Line.Line, Solution.{Test, Solves}}
+use Rattle.fault_model.{specs.Detection.{name_on, HasBit, IsInitialized}, proofs.Public.agree}
+use Rattle.list_lemmas.proofs.{Members.contained, Places.{at_place, within_place}}
 use Rattle.flat_circuit.proofs.Public.{index_of, lane_and, lane_not, lane_ones}
 use Rattle.flat_circuit.specs.Words.{lane, lane_bits, test_of, AreWords, IsFaultFreeWord}
 
 pub lane_has_bit : (c : List Statement) (tests : List Test) (group k : ℕ) (row : List ℕ) (l : Line)
     (n : Name) (bit : Bool) → IsWellFormed c → AreWords c tests group None row → k < 128
     → name_on c l ≡ Some n → Contains (names c) n
-    → (lane (slice_index_or row (signal c n) 0) k ≡ bit) ↔ HasBit c (test_of tests group k) l
-    bit
+    → (lane (slice_index_or row (signal c n) 0) k ≡ bit) ↔ HasBit c (test_of tests group k) l bit
 lane_has_bit c tests group k row l n bit well words lt at named = (there, back)
   where
     there : lane (slice_index_or row (signal c n) 0) k ≡ bit
@@ -54,8 +45,7 @@ fault_free_word c tests group s row well words k n v lt at solves =
 pub fault_free_lane : (c : List Statement) (tests : List Test) (block s : ℕ) (row : List ℕ)
     (word : ℕ) → IsWellFormed c → AreWords c tests (block / 2) None row
     → ((k j : ℕ) → k < 64 → 64 * block + k ≡ 128 * (block / 2) + j
-    → lane word k ≡ lane (slice_index_or row s 0) j)
-    → IsFaultFreeWord c tests block s word
+    → lane word k ≡ lane (slice_index_or row s 0) j) → IsFaultFreeWord c tests block s word
 fault_free_lane c tests block s row word well words half k n v lt at solves =
     let j = 64 * block + k - 128 * (block / 2) in
     let place : 64 * block + k ≡ 128 * (block / 2) + j = omega arith in

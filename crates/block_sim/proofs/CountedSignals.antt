@@ -1,7 +1,6 @@
 -- The signals that count in an event-driven simulation: live signals, and signals up to the level
 -- of the start.
-use Rattle.std.proofs.Common.{◌<◌, ◌≤◌, ℕ}
-use Rattle.std.proofs.Common.{List, arith, inl, inr}
+use Rattle.std.proofs.Common.{◌<◌, ◌≤◌, ℕ, List, arith, inl, inr}
 use Rattle.bench_net.specs.Statement.{Statement}
 use Rattle.flat_circuit.specs.Readers.{Reads, IsLive, through}
 use Rattle.block_sim.specs.Propagation.{Counts}

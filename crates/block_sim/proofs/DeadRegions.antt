@@ -1,32 +1,19 @@
 -- Regions whose stem reaches no observer: no test detects a class of one.
 use Rattle.std.proofs.Common.{◌≡◌, ◌∙◌, ℕ, List, ap, refl, subst, sym}
 use Rattle.std.specs.Prelude.{Contains, None, Option, Some, option_map, unwrap_or}
-use Rattle.bench_net.specs.Statement.{Statement}
+use Rattle.bench_net.specs.{Statement.Statement, Scan.signal, Circuit.IsWellFormed}
 use Rattle.bench_net.specs.declared.Sink.TheVariants as sink
-use Rattle.bench_net.specs.Scan.{signal}
-use Rattle.bench_net.specs.Circuit.{IsWellFormed}
-use Rattle.fault_model.specs.declared.Line.{Line}
-use Rattle.fault_model.specs.declared.Line.TheVariants as line
-use Rattle.fault_model.specs.declared.Model.{Model}
-use Rattle.fault_model.specs.Detection.{name_on}
-use Rattle.fault_model.specs.Fault.{Fault, faults}
-use Rattle.fault_model.specs.Reordered.{place}
-use Rattle.fault_model.specs.Solution.{Detects, Test}
+use Rattle.fault_model.specs.{declared.Line.Line, declared.Model.Model, Detection.name_on}
+use Rattle.fault_model.specs.{Fault.{Fault, faults}, Reordered.place, Solution.{Detects, Test}}
 use Rattle.fault_model.proofs.Public.{carries}
-use Rattle.flat_circuit.specs.declared.block_span.BlockSpan.{BlockSpan}
-use Rattle.flat_circuit.specs.declared.origin.ListedClass.{ListedClass}
-use Rattle.flat_circuit.specs.Arranged.{IsArranged}
-use Rattle.flat_circuit.specs.Readers.{IsLive}
-use Rattle.block_sim.specs.Listed.{IsListed}
-use Rattle.block_sim.specs.Parts.{BelongTogether, Parts}
-use Rattle.block_sim.specs.First.{IsFirstOn}
-use Rattle.flat_circuit.specs.Regions.{IsStemOfLine, RunsTo, way_from}
-use Rattle.block_sim.specs.Flips.{DetectsFlip, start_of}
+use Rattle.fault_model.specs.declared.Line.TheVariants as line
+use Rattle.flat_circuit.specs.{declared.block_span.BlockSpan.BlockSpan, Arranged.IsArranged}
+use Rattle.flat_circuit.specs.{declared.origin.ListedClass.ListedClass, Readers.IsLive}
+use Rattle.flat_circuit.{specs.Regions.{IsStemOfLine, RunsTo, way_from}, proofs.Public.lead_law}
 use Rattle.flat_circuit.proofs.Public.{reordered, circuit_there, data_observed, output_observed}
-use Rattle.flat_circuit.proofs.Public.{lead_law}
-use Rattle.block_sim.proofs.Arrivals.{dead_flip}
-use Rattle.block_sim.proofs.ObservedStems.{observed_flip}
-use Rattle.block_sim.proofs.Regions.{fault_law, region_law}
+use Rattle.block_sim.specs.{Listed.IsListed, Parts.{BelongTogether, Parts}, First.IsFirstOn}
+use Rattle.block_sim.{specs.Flips.{DetectsFlip, start_of}, proofs.Arrivals.dead_flip}
+use Rattle.block_sim.proofs.{ObservedStems.observed_flip, Regions.{fault_law, region_law}}
 use Rattle.block_sim.proofs.ReorderedGates.{same_flips}
 
 -- a test that doesn't detect the complemented stem detects no fault of its region
@@ -52,15 +39,13 @@ dead_fault c well m f t at stem way dead d = go f.line refl
         let name : name_on c (line.Data i) ≡ Some n.0 = sym (ap (name_on c) on) ∙ n.1 in
         let same : signal c n.0 ≡ way.0 = ap (λ o. unwrap_or o way.0)
         (sym (ap (option_map (signal c)) name) ∙ (sym (ap (way_from c) on) ∙ way.1)) in
-        over (observed_flip c t way.0 well
-        ((sink.Data i, n.0), data_observed c i n.0 name, same))
+        over (observed_flip c t way.0 well ((sink.Data i, n.0), data_observed c i n.0 name, same))
     go (line.Out i) on =
         let n = carries m c f well at in
         let name : name_on c (line.Out i) ≡ Some n.0 = sym (ap (name_on c) on) ∙ n.1 in
         let same : signal c n.0 ≡ way.0 = ap (λ o. unwrap_or o way.0)
         (sym (ap (option_map (signal c)) name) ∙ (sym (ap (way_from c) on) ∙ way.1)) in
-        over (observed_flip c t way.0 well
-        ((sink.Out i, n.0), output_observed c i n.0 name, same))
+        over (observed_flip c t way.0 well ((sink.Out i, n.0), output_observed c i n.0 name, same))
 
 -- no test detects a class whose stem is dead
 pub dead_class : (job : Parts) (c : List Statement) → BelongTogether job

@@ -1,25 +1,17 @@
 -- The tests of a block that detect a fault, from a word of lanes in which it is detected.
 use Rattle.std.proofs.Common.{◌≡◌, ◌<◌, ◌≤◌, ℕ, ◌+◌, ◌*◌, ◌-◌, ◌/◌, min, refl, sym, ◌∙◌, subst}
-use Rattle.std.proofs.Common.{Bool, true, false, List, []}
-use Rattle.std.proofs.Common.{length, arith}
-use Rattle.std.proofs.lemmas.Bool.{false≢true}
-use Rattle.std.specs.Prelude.{Some, slice_get}
-use Rattle.std.specs.Bool.{Decides}
+use Rattle.std.proofs.{Common.{Bool, true, false, List, [], length, arith}, lemmas.Bool.false≢true}
+use Rattle.std.specs.{Prelude.{Some, slice_get}, Bool.Decides}
 use Rattle.list_lemmas.proofs.Places.{within_place, place_within}
 use Rattle.bench_net.specs.Statement.{Statement}
-use Rattle.fault_model.specs.Fault.{Fault}
-use Rattle.fault_model.specs.Solution.{Test, Detects}
-use Rattle.fault_model.specs.Detection.{DetectsAt}
-use Rattle.patterns.specs.declared.Outcome.{Outcome}
-use Rattle.patterns.specs.declared.Outcome.TheVariants.{Clear, Hit}
+use Rattle.fault_model.specs.{Fault.Fault, Solution.{Test, Detects}, Detection.DetectsAt}
+use Rattle.patterns.specs.declared.Outcome.{Outcome, TheVariants.{Clear, Hit}}
 use Rattle.patterns.specs.Tests.{size_of}
-use Rattle.flat_circuit.specs.declared.block_span.BlockSpan.{BlockSpan}
-use Rattle.block_sim.specs.First.{AreDetectingLanes, IsOutcome}
-use Rattle.block_sim.specs.Flips.{AreLanesFor}
+use Rattle.flat_circuit.{specs.declared.block_span.BlockSpan.BlockSpan, proofs.Public.index_of}
 use Rattle.flat_circuit.specs.BlockSpans.{AreInSpan, IsInSpan, group_of, one_block}
-use Rattle.block_sim.specs.ActiveGates.{HasActive, HasActiveIn}
 use Rattle.flat_circuit.specs.Words.{lane, test_of, IsLeastLane}
-use Rattle.flat_circuit.proofs.Public.{index_of}
+use Rattle.block_sim.specs.{First.{AreDetectingLanes, IsOutcome}, Flips.AreLanesFor}
+use Rattle.block_sim.specs.ActiveGates.{HasActive, HasActiveIn}
 
 module _ (c : List Statement) (tests : List Test) (span : BlockSpan) (f : Fault) (lanes word : ℕ)
     (decides : AreLanesFor tests span c f lanes) (settled : ℕ → Type 0)
@@ -64,23 +56,19 @@ module _ (c : List Statement) (tests : List Test) (block : ℕ) (f : Fault) (set
   found : (k : ℕ) → k < 64 → lane own k ≡ true
       → IsInSpan (length tests) (one_block block) (64 * block + k)
       × DetectsAt c tests f (64 * block + k)
-  found k lt e =
-      subst (λ t. IsInSpan (length tests) (one_block block) t × DetectsAt c tests f t)
-      (sym (at_place k))
-      (detection.found (place k) (low k lt) (sym (same k lt) ∙ e))
+  found k lt e = subst (λ t. IsInSpan (length tests) (one_block block) t × DetectsAt c tests f t)
+      (sym (at_place k)) (detection.found (place k) (low k lt) (sym (same k lt) ∙ e))
 
   clear : (k : ℕ) → k < 64 → lane own k ≡ false → (settled (place k) → ⊥)
       → DetectsAt c tests f (64 * block + k) → ⊥
   clear k lt e unsettled d =
       let listed = place_within tests (64 * block + k) d.0 d.1 in
       let here = at_place k in
-      detection.clear (place k) (low k lt)
-      (record {
+      detection.clear (place k) (low k lt) (record {
         from = omega (arith, here);
         to = omega (arith, here, lt);
         listed = omega (arith, here, listed);
-      })
-      (sym (same k lt) ∙ e) unsettled (subst (DetectsAt c tests f) here d)
+      }) (sym (same k lt) ∙ e) unsettled (subst (DetectsAt c tests f) here d)
 
   within_word : (k : ℕ) → k < size_of (length tests) block → k < 64
   within_word k few = let le : k < min 64 (length tests - 64 * block) = few in omega (arith, le)

@@ -1,12 +1,9 @@
 -- The word of the lanes before.
 use Rattle.std.proofs.Common.{◌≡◌, ◌<◌, ◌^◌, ◌*◌, ◌/◌, ◌%◌, ◌+◌, ℕ, suc, refl, sym, ◌∙◌, ap, false}
-use Rattle.std.proofs.Common.{true, Bool, ◌||◌, arith}
-use Rattle.std.specs.Prelude.{◌==◌, bit_or}
-use Rattle.std.specs.Int.{bit_at}
+use Rattle.std.{proofs.Common.{true, Bool, ◌||◌, arith}, specs.Prelude.{◌==◌, bit_or}}
+use Rattle.std.{specs.Int.bit_at, proofs.lemmas.Nat.Bits.bit_at_cat_high}
 use Rattle.std.proofs.lemmas.Nat.Bits.{bit_at-suc, bit_at_lowest, bit_at_above, bit_at_cat_low}
-use Rattle.std.proofs.lemmas.Nat.Bits.{bit_at_cat_high}
-use Rattle.flat_circuit.specs.Words.{lane}
-use Rattle.flat_circuit.proofs.Public.{lane_or}
+use Rattle.flat_circuit.{specs.Words.lane, proofs.Public.lane_or}
 
 -- a word one up has 0 in lane 0, and in the next its lane
 up_first : (w : ℕ) → lane (w * 2 % 2 ^ 128) 0 ≡ false
@@ -44,7 +41,6 @@ before_first w last = lane_or (w * 2 % 2 ^ 128) (last / 2 ^ 127) 0
 
 pub before_later : (w last k : ℕ) → last < 2 ^ 128 → k < 127
     → lane (bit_or (w * 2 % 2 ^ 128) (last / 2 ^ 127)) (suc k) ≡ lane w k
-before_later w last k fits lt =
-    lane_or (w * 2 % 2 ^ 128) (last / 2 ^ 127) (suc k)
+before_later w last k fits lt = lane_or (w * 2 % 2 ^ 128) (last / 2 ^ 127) (suc k)
     ∙ (ap (λ b. lane (w * 2 % 2 ^ 128) (suc k) || b) (down_later last k fits)
     ∙ (or_none (lane (w * 2 % 2 ^ 128) (suc k)) ∙ up_later w k lt))

@@ -1,37 +1,28 @@
 -- The end of an event-driven simulation: the seen lanes are the lanes in which the fault is shown,
 -- and the evaluated gates were active.
-use Rattle.std.proofs.Common.{◌≡◌, ◌≢◌, ◌<◌, ℕ, ◌+◌, ◌*◌, refl, sym, ◌∙◌, ap, subst, Bool}
-use Rattle.std.proofs.Common.{true, false, not, List, [], length, set, arith, inl, inr, ◌⊎◌}
+use Rattle.std.proofs.Common.{◌≡◌, ◌≢◌, ◌<◌, ℕ, ◌+◌, ◌*◌, refl, sym, ◌∙◌, ap, subst, Bool, true}
+use Rattle.std.proofs.Common.{false, not, List, [], length, set, arith, inl, inr, ◌⊎◌}
 use Rattle.std.specs.Prelude.{Contains, Some, None, slice_get, slice_index_or}
-use Rattle.std.proofs.lemmas.List.{get_or-set_same, get_or-set_other}
-use Rattle.std.proofs.lemmas.Bool.{cases_eq, false≢true}
-use Rattle.bench_net.specs.declared.Sink.{Sink}
-use Rattle.bench_net.specs.Statement.{Name, Statement, Gate}
-use Rattle.bench_net.specs.Scan.{names, signal, observers}
-use Rattle.bench_net.specs.Circuit.{IsWellFormed}
-use Rattle.list_lemmas.proofs.Members.{among}
+use Rattle.std.proofs.lemmas.{List.{get_or-set_same, get_or-set_other}, Bool.{cases_eq, false≢true}}
+use Rattle.bench_net.specs.{declared.Sink.Sink, Statement.{Name, Statement, Gate}}
+use Rattle.bench_net.specs.{Scan.{names, signal, observers}, Circuit.IsWellFormed}
 use Rattle.bench_net.proofs.Public.{read_named}
-use Rattle.list_lemmas.proofs.Places.{within_place, placed}
+use Rattle.list_lemmas.proofs.{Members.among, Places.{within_place, placed}}
 use Rattle.fault_model.specs.declared.Line.TheVariants as line
-use Rattle.fault_model.specs.Fault.{Fault, branch}
-use Rattle.fault_model.specs.Solution.{Test, Solves, Detects, shows}
+use Rattle.fault_model.specs.{Fault.{Fault, branch}, Solution.{Test, Solves, Detects, shows}}
 use Rattle.fault_model.proofs.Public.{detection_is_of_any_solution, has_solutions, under_other}
 use Rattle.fault_model.proofs.Public.{observes}
-use Rattle.block_sim.specs.First.{AreDetectingLanes}
-use Rattle.block_sim.specs.Flips.{AreLanesFor}
-use Rattle.block_sim.proofs.DetectingTests.{told_of_lanes}
-use Rattle.flat_circuit.specs.Words.{lane, lane_bits, test_of, AreWords}
+use Rattle.block_sim.specs.{First.AreDetectingLanes, Flips.AreLanesFor}
+use Rattle.block_sim.proofs.{DetectingTests.told_of_lanes, CountedSignals.counts_closed}
 use Rattle.block_sim.specs.ActiveGates.{AreInGroup, IsActiveIn, IsActiveBy, HasActiveIn}
-use Rattle.flat_circuit.specs.BlockSpans.{group_of}
-use Rattle.flat_circuit.specs.declared.block_span.BlockSpan.{BlockSpan}
-use Rattle.flat_circuit.specs.Readers.{Reads, observed}
 use Rattle.block_sim.specs.Events.{bits_of, HasEquation, IsElsewhere}
 use Rattle.block_sim.specs.Propagation.{IsPropagating, IsBalanced, Counts, IsFirstChange, AreSeen}
 use Rattle.block_sim.specs.Propagation.{AreShown, IsApart, HasTouched}
-use Rattle.flat_circuit.proofs.Public.{lane_xor, lane_zero, unlike, lane_same, index_of}
 use Rattle.block_sim.proofs.Balanced.{balanced_solves, fault_free_holds}
-use Rattle.block_sim.proofs.CountedSignals.{counts_closed}
 use Rattle.block_sim.proofs.TrueBelowLevel.{right_by_now}
+use Rattle.flat_circuit.specs.{Words.{lane, lane_bits, test_of, AreWords}, BlockSpans.group_of}
+use Rattle.flat_circuit.specs.{declared.block_span.BlockSpan.BlockSpan, Readers.{Reads, observed}}
+use Rattle.flat_circuit.proofs.Public.{lane_xor, lane_zero, unlike, lane_same, index_of}
 
 turned : (a b : Bool) → b ≡ true → a ≢ unlike a b
 turned true b e h = let n : true ≡ not b = h in absurd (false≢true (sym (ap not e) ∙ sym n))
@@ -46,8 +37,7 @@ alike false false h = absurd (h refl)
 pub told_of_shown : (c : List Statement) (tests : List Test) (span : BlockSpan) (r : Fault)
     (good : List ℕ) (lanes seen : ℕ)
     → IsWellFormed c → AreWords c tests (group_of span) None good → AreLanesFor tests span c r lanes
-    → (settled : ℕ → Type 0)
-    → AreShown c tests (group_of span) (λ _. r) good lanes settled seen
+    → (settled : ℕ → Type 0) → AreShown c tests (group_of span) (λ _. r) good lanes settled seen
     → AreDetectingLanes c tests span r settled seen
 told_of_shown c tests span r good lanes seen well words decides settled h =
     told_of_lanes c tests span r lanes seen decides settled found clear
@@ -204,8 +194,7 @@ module _ (c : List Statement) (tests : List Test) (group : ℕ) (f : ℕ
 -- a first change in no lane at all: nothing is shown
 pub shown_unchanged : (c : List Statement) (tests : List Test) (group : ℕ) (f : ℕ
     → Fault) (good : List ℕ) (lanes : ℕ) (delta : List ℕ) (start diff : ℕ) (settled : ℕ → Type 0)
-    → IsWellFormed c
-    → ((t : ℕ) → slice_index_or delta t 0 ≡ 0) → start < length delta → diff ≡ 0
+    → IsWellFormed c → ((t : ℕ) → slice_index_or delta t 0 ≡ 0) → start < length delta → diff ≡ 0
     → IsFirstChange c tests group f good lanes delta start diff
     → AreShown c tests group f good lanes settled 0
 shown_unchanged c tests group f good lanes delta start diff settled well clear within none first =
@@ -230,8 +219,7 @@ shown_unchanged c tests group f good lanes delta start diff settled well clear w
     balanced : IsBalanced c (λ s. Unit {0}) tests group f good lanes (set delta start diff) []
     balanced s k all idle lt in_lanes = go (cases_eq s start)
       where
-        go : (s ≡ start) ⊎ (s ≢ start)
-            → HasEquation c (test_of tests group k) (Some (f k))
+        go : (s ≡ start) ⊎ (s ≢ start) → HasEquation c (test_of tests group k) (Some (f k))
             (bits_of c good (set delta start diff) k) s
         go (inl e) = subst (HasEquation c (test_of tests group k) (Some (f k))
             (bits_of c good (set delta start diff) k)) (sym e) (first.first k lt in_lanes)
@@ -241,6 +229,5 @@ shown_unchanged c tests group f good lanes delta start diff settled well clear w
     unapart : (k : ℕ) → IsApart c (f k) good k (bits_of c good (set delta start diff) k) → ⊥
     unapart k a =
         a.2 (sym (under_other (f k) (branch a.0.0) (bits_of c good (set delta start diff) k a.0.1)
-        (first.unobserved a.0 k a.1)
-        ∙ lane_same (slice_index_or good (signal c a.0.1) 0) k
+        (first.unobserved a.0 k a.1) ∙ lane_same (slice_index_or good (signal c a.0.1) 0) k
         (slice_index_or (set delta start diff) (signal c a.0.1) 0) (still (signal c a.0.1))))

@@ -4,20 +4,17 @@ use Rattle.std.proofs.Common.{◌≡◌, ◌<◌, ℕ, zero, suc, ◌+◌, refl,
 use Rattle.std.proofs.Common.{false, List, [], ◌∷◌, arith, inl, inr, ◌⊎◌}
 use Rattle.std.specs.Prelude.{◌≢◌, Contains, Option, Some, None, map, bytes_eq}
 use Rattle.std.specs.List.{enumerate_from}
-use Rattle.bench_net.specs.declared.Kind.{Kind}
-use Rattle.bench_net.specs.declared.Sink.{Sink}
+use Rattle.bench_net.specs.{declared.Kind.Kind, declared.Sink.Sink, Circuit.IsWellFormed}
 use Rattle.bench_net.specs.Statement.{Name, Statement, Gate}
 use Rattle.bench_net.specs.Scan.{names, inputs, cells, sources, signal, observers}
-use Rattle.bench_net.specs.Circuit.{IsWellFormed}
+use Rattle.bench_net.proofs.Public.{same_bytes, bytes_refl, read_named}
 use Rattle.list_lemmas.proofs.Members.{Among, among, contained, among_left, among_right}
 use Rattle.list_lemmas.proofs.Places.{placed}
-use Rattle.bench_net.proofs.Public.{same_bytes, bytes_refl, read_named}
-use Rattle.fault_model.specs.declared.Line.{Line}
-use Rattle.fault_model.specs.declared.Line.TheVariants as line
-use Rattle.fault_model.specs.Fault.{Fault, branch}
+use Rattle.fault_model.specs.{declared.Line.Line, Fault.{Fault, branch}}
 use Rattle.fault_model.specs.Solution.{Test, Solves, value, under, sees, shows}
 use Rattle.fault_model.proofs.Public.{Driven, driven, under_other, observes, signal_apart}
 use Rattle.fault_model.proofs.Public.{defined_among}
+use Rattle.fault_model.specs.declared.Line.TheVariants as line
 
 -- a name that only one gate reads, by one or more pins, and that no observer observes
 pub record IsOnlyFor (c : List Statement) (name : Name) (args : List Name)
@@ -91,8 +88,7 @@ module _ (c : List Statement) (t : Test) (f g : Option Fault) (v w : Name
             by_source h.0 h.1 (among_right (inputs c) (map (λ cell. cell.0) (cells c)) m x)
         go ih (inr h) (inr (inr x)) =
             let at : Contains c (Gate m x.0 x.1) = contained c (Gate m x.0 x.1) x.2 in
-            p.gate m x.0 x.1 at
-            ∙ (free_stem f (signal c m) _ h.0
+            p.gate m x.0 x.1 at ∙ (free_stem f (signal c m) _ h.0
             ∙ (ap (value x.0) (free_pins f v (signal c m) 0 x.1 h.0
             ∙ (map_alike v w x.1 same ∙ sym (free_pins g w (signal c m) 0 x.1 h.1)))
             ∙ sym (q.gate m x.0 x.1 at ∙ free_stem g (signal c m) _ h.1)))

@@ -1,37 +1,27 @@
 -- The start of a fault: the lanes in which it is excited, and the first change.
 use Rattle.std.proofs.Common.{◌≡◌, ◌≢◌, ◌<◌, ℕ, suc, ◌+◌, ◌*◌, refl, sym, ◌∙◌, ap, subst, Bool}
 use Rattle.std.proofs.Common.{true, false, List, [], ◌∷◌, length, map, set, arith, inl, inr, ◌⊎◌}
-use Rattle.std.specs.Prelude.{Contains, Some, None, slice_get, slice_index_or, bit_and}
-use Rattle.std.specs.Prelude.{bit_xor, option_map}
-use Rattle.std.specs.Bool.{Decides}
-use Rattle.std.specs.List.{enumerate_from}
-use Rattle.std.proofs.lemmas.List.{get_or-set_same}
-use Rattle.std.proofs.lemmas.Bool.{false≢true}
-use Rattle.bench_net.specs.declared.Kind.{Kind}
-use Rattle.bench_net.specs.declared.Sink.{Sink}
-use Rattle.bench_net.specs.declared.Sink.TheVariants as sink
-use Rattle.bench_net.specs.Statement.{Name, Statement, Gate}
+use Rattle.std.specs.Prelude.{Contains, Some, None, slice_get, slice_index_or, bit_and, bit_xor}
+use Rattle.std.specs.{Prelude.option_map, Bool.Decides, List.enumerate_from}
+use Rattle.std.proofs.lemmas.{List.get_or-set_same, Bool.false≢true}
+use Rattle.bench_net.specs.{declared.Kind.Kind, declared.Sink.Sink, Scan.cells}
+use Rattle.bench_net.specs.{Statement.{Name, Statement, Gate}, Circuit.IsWellFormed}
 use Rattle.bench_net.specs.Scan.{names, signal, definition, gate_of, sources, observers, outputs}
-use Rattle.bench_net.specs.Scan.{cells}
-use Rattle.bench_net.specs.Circuit.{IsWellFormed}
-use Rattle.list_lemmas.proofs.Members.{Among, among, contained, among_append}
-use Rattle.list_lemmas.proofs.Members.{mapped_from}
 use Rattle.bench_net.proofs.Public.{name_of-signal}
+use Rattle.bench_net.specs.declared.Sink.TheVariants as sink
+use Rattle.list_lemmas.proofs.Members.{Among, among, contained, among_append, mapped_from}
 use Rattle.list_lemmas.proofs.Places.{numbered_at, at_place, within_place}
-use Rattle.fault_model.specs.declared.Line.{Line}
-use Rattle.fault_model.specs.declared.Line.TheVariants as line
-use Rattle.fault_model.specs.Detection.{argument, name_on}
+use Rattle.fault_model.specs.{declared.Line.Line, Detection.{argument, name_on}}
 use Rattle.fault_model.specs.Fault.{Fault, branch, same_line}
 use Rattle.fault_model.specs.Solution.{Test, Solves, sees, under, value}
 use Rattle.fault_model.proofs.Public.{has_solutions, same_lines, under_other, under_own, observes}
 use Rattle.fault_model.proofs.Public.{defined_among, definition-signal, source_named}
+use Rattle.fault_model.specs.declared.Line.TheVariants as line
 use Rattle.flat_circuit.specs.Words.{lane, lane_bits, word_over, pin_bits, test_of, AreWords}
-use Rattle.block_sim.specs.ActiveGates.{AreInGroup, IsActiveIn, IsActiveBy}
-use Rattle.flat_circuit.specs.Readers.{Reads}
-use Rattle.block_sim.specs.Events.{bits_of}
+use Rattle.flat_circuit.{specs.Readers.Reads, proofs.Public.{index_of, changed_to, turned_lanes}}
+use Rattle.block_sim.specs.{ActiveGates.{AreInGroup, IsActiveIn, IsActiveBy}, Events.bits_of}
 use Rattle.block_sim.specs.Propagation.{AreShown, IsApart, IsFirstChange}
 use Rattle.block_sim.proofs.SignalEquations.{equation_of, word_other}
-use Rattle.flat_circuit.proofs.Public.{index_of, changed_to, turned_lanes}
 
 -- a line that has the stuck bit anyway
 under_same : (f : Fault) (l : Line) (bit : Bool) → (f.line ≡ l → bit ≡ f.stuck)
@@ -103,8 +93,7 @@ module _ (c : List Statement) (tests : List Test) (group : ℕ) (f : Fault) (goo
           definition-signal c (Gate m kind args) m well at refl in
           let pins = pins_from (signal c m) 0 args (λ i b here own. stuck_name b (sym here
           ∙ (ap (λ o. argument o i) (sym defined)
-          ∙ (ap (name_on c) (sym (own ∙ ap (line.Pin (signal c m)) (omega arith)))
-          ∙ carries)))) in
+          ∙ (ap (name_on c) (sym (own ∙ ap (line.Pin (signal c m)) (omega arith))) ∙ carries)))) in
           let now = plain ∙ ap (value kind) pins in
           now ∙ sym (under_same f (line.Stem (signal c m)) _ (λ own. sym now
           ∙ on_stem m (defined_among c (Gate m kind args) m a refl) own));
@@ -149,11 +138,7 @@ module _ (c : List Statement) (tests : List Test) (group : ℕ) (f : Fault) (goo
     shown_at_observer o own there = record {
       found = λ k lt e. let d = (is k lt).0 e in (
         d.0,
-        λ v solves. (
-          (o, n),
-          there,
-          λ same. d.1 (same ∙ under_own f (branch o) (v n) (sym own)),
-        ),
+        λ v solves. ((o, n), there, λ same. d.1 (same ∙ under_own f (branch o) (v n) (sym own))),
       );
       clear = λ k lt in_lanes out _. cleared k lt in_lanes out;
     }
@@ -196,8 +181,7 @@ unobserved c f l well on off o there e = off o there (sym on ∙ e)
 pub first_on_stem : (c : List Statement) (tests : List Test) (group : ℕ) (f : ℕ
     → Fault) (good : List ℕ) (lanes : ℕ) (delta : List ℕ) (start diff : ℕ) → IsWellFormed c
     → ((k : ℕ) → (f k).line ≡ line.Stem start) → start < length delta
-    → AreWords c tests group None good
-    → ((k : ℕ) → k < 128 → lane lanes k ≡ true
+    → AreWords c tests group None good → ((k : ℕ) → k < 128 → lane lanes k ≡ true
     → lane (bit_xor (slice_index_or good start 0) diff) k ≡ (f k).stuck)
     → IsFirstChange c tests group f good lanes delta start diff
 first_on_stem c tests group f good lanes delta start diff well on within words now = record {
@@ -219,8 +203,7 @@ first_on_stem c tests group f good lanes delta start diff well on within words n
   where
     here : (k : ℕ) → k < 128 → lane lanes k ≡ true → (n : Name) → signal c n ≡ start
         → bits_of c good (set delta start diff) k n ≡ (f k).stuck
-    here k lt in_lanes n number =
-        ap (λ s. lane (word_over good (set delta start diff) s) k) number
+    here k lt in_lanes n number = ap (λ s. lane (word_over good (set delta start diff) s) k) number
         ∙ (ap (λ d. lane (bit_xor (slice_index_or good start 0) d) k)
         (get_or-set_same delta start diff 0 within) ∙ now k lt in_lanes)
 

@@ -3,25 +3,18 @@
 use Rattle.std.proofs.Common.{◌≡◌, ◌≢◌, ◌<◌, ◌≤◌, ℕ, ◌+◌, refl, sym, ◌∙◌, ap, Bool, true, false}
 use Rattle.std.proofs.Common.{cond, List, [], ◌∷◌, length, arith, set, inl, inr, ◌⊎◌}
 use Rattle.std.specs.Prelude.{Some, None, count_by, slice_index_or, ◌==◌}
-use Rattle.std.proofs.lemmas.List.{get_or-set_same, get_or-set_other}
-use Rattle.std.proofs.lemmas.List.Sums.{sum_by-cons}
+use Rattle.std.proofs.lemmas.List.{get_or-set_same, get_or-set_other, Sums.sum_by-cons}
 use Rattle.std.proofs.lemmas.Bool.{cases_eq, false≢true, eqb-true}
-use Rattle.bench_net.specs.Statement.{Statement}
-use Rattle.bench_net.specs.Scan.{names, signal}
-use Rattle.bench_net.specs.Circuit.{IsWellFormed}
+use Rattle.bench_net.specs.{Statement.Statement, Scan.{names, signal}, Circuit.IsWellFormed}
 use Rattle.list_lemmas.proofs.Members.{among}
-use Rattle.fault_model.specs.Fault.{Fault}
-use Rattle.fault_model.specs.Solution.{Test}
-use Rattle.flat_circuit.specs.Words.{lane, test_of, AreWords}
-use Rattle.flat_circuit.specs.Readers.{Reads, IsLive}
+use Rattle.fault_model.specs.{Fault.Fault, Solution.Test}
+use Rattle.flat_circuit.specs.{Words.{lane, test_of, AreWords}, Readers.{Reads, IsLive}}
+use Rattle.flat_circuit.proofs.Public.{lane_zero}
 use Rattle.block_sim.specs.Events.{bits_of, HasEquation, IsElsewhere, AreScheduled}
 use Rattle.block_sim.specs.Propagation.{IsPropagating, IsBalanced, Counts, IsRightIn, pending_gates}
-use Rattle.block_sim.specs.Propagation.{is_pending}
-use Rattle.flat_circuit.proofs.Public.{lane_zero}
-use Rattle.block_sim.proofs.Balanced.{balanced_first}
-use Rattle.block_sim.proofs.PendingGates.{pending_cases}
+use Rattle.block_sim.{specs.Propagation.is_pending, proofs.Balanced.balanced_first}
+use Rattle.block_sim.proofs.{PendingGates.pending_cases, TrueBelowLevel.right_by_now}
 use Rattle.block_sim.proofs.CountedSignals.{counts_closed, reader_live}
-use Rattle.block_sim.proofs.TrueBelowLevel.{right_by_now}
 
 abbrev weight : Bool → ℕ
 weight b = cond b 1 0
@@ -42,8 +35,7 @@ count_apart p q (x ∷ xs) h =
 
 module _ (c : List Statement) (tests : List Test) (group : ℕ) (f : ℕ
     → Fault) (good : List ℕ) (lanes : ℕ) (lv : ℕ → ℕ) (start : ℕ) (well : IsWellFormed c)
-    (rises : (g s : ℕ) → Reads c g s → lv s < lv g)
-    (delta at after : List ℕ) (idle : (t : ℕ)
+    (rises : (g s : ℕ) → Reads c g s → lv s < lv g) (delta at after : List ℕ) (idle : (t : ℕ)
     → slice_index_or at t 0 ≡ 0) (scheduled : AreScheduled c start at after) where
   which : (r : ℕ) → slice_index_or after r 0 ≢ 0 → Reads c r start × IsLive c r
   which r ne = go (scheduled.only r)

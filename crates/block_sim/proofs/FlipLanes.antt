@@ -1,23 +1,16 @@
 -- The lanes in which a complemented signal is detected, from one simulation that complements it in
 -- lanes of both bits.
-use Rattle.std.proofs.Common.{◌≡◌, ◌<◌, ℕ, refl, ◌∙◌, ap, Bool, true, false}
-use Rattle.std.proofs.Common.{not, List, length}
+use Rattle.std.proofs.Common.{◌≡◌, ◌<◌, ℕ, refl, ◌∙◌, ap, Bool, true, false, not, List, length}
 use Rattle.std.specs.Prelude.{Some, None, slice_index_or}
-use Rattle.bench_net.specs.Statement.{Name, Statement}
-use Rattle.bench_net.specs.Scan.{names, signal, name_of}
-use Rattle.bench_net.specs.Circuit.{IsWellFormed}
-use Rattle.list_lemmas.proofs.Members.{Among, contained}
-use Rattle.list_lemmas.proofs.Places.{at_place, within_place}
-use Rattle.bench_net.proofs.Public.{signal-name_of}
+use Rattle.bench_net.specs.{Statement.{Name, Statement}, Scan.{names, signal, name_of}}
+use Rattle.bench_net.{specs.Circuit.IsWellFormed, proofs.Public.signal-name_of}
+use Rattle.list_lemmas.proofs.{Members.{Among, contained}, Places.{at_place, within_place}}
 use Rattle.fault_model.specs.declared.Line.TheVariants as line
-use Rattle.fault_model.specs.Fault.{Fault}
-use Rattle.fault_model.specs.Solution.{Test}
-use Rattle.fault_model.specs.Detection.{HasBit}
-use Rattle.block_sim.specs.Flips.{flip}
-use Rattle.block_sim.specs.Propagation.{IsFirstChange}
+use Rattle.fault_model.specs.{Fault.Fault, Solution.Test, Detection.HasBit}
+use Rattle.block_sim.specs.{Flips.flip, Propagation.IsFirstChange}
+use Rattle.block_sim.proofs.FaultStart.{first_on_stem}
 use Rattle.flat_circuit.specs.Words.{lane, lane_bits, test_of, AreWords}
 use Rattle.flat_circuit.proofs.Public.{lane_xor, unlike}
-use Rattle.block_sim.proofs.FaultStart.{first_on_stem}
 
 -- the faults that complement a signal, in each lane from the bit that the signal has there
 abbrev pub flips : List ℕ → ℕ → ℕ → Fault
@@ -34,8 +27,7 @@ module _ (c : List Statement) (well : IsWellFormed c) (tests : List Test) (group
       → IsFirstChange c tests group (flips good s) good lanes delta s lanes
   flip_first delta lanes within =
       first_on_stem c tests group (flips good s) good lanes delta s lanes well
-      (λ k. refl) within words
-      (λ k lt e. lane_xor (slice_index_or good s 0) lanes k
+      (λ k. refl) within words (λ k lt e. lane_xor (slice_index_or good s 0) lanes k
       ∙ turned_bit (lane (slice_index_or good s 0) k) (lane lanes k) e)
 
   name : (n : Name) × (name_of c s ≡ Some n)

@@ -1,26 +1,22 @@
 -- The tests that detect a complemented signal, and the tests that detect a fault by its first
 -- signal.
 use Rattle.std.proofs.Common.{◌≡◌, ◌<◌, ℕ, refl, sym, ◌∙◌, ap, subst, Bool, true, false, not, List}
-use Rattle.std.proofs.Common.{arith, inl, inr, ◌⊎◌, eqb-true, eq-eqb}
+use Rattle.std.{proofs.Common.{arith, inl, inr, ◌⊎◌, eqb-true, eq-eqb}, specs.Prelude.bytes_eq}
 use Rattle.std.specs.Prelude.{◌≢◌, ◌==◌, Contains, Some, None, map, if◌then◌else◌, unwrap_or}
-use Rattle.std.specs.Prelude.{bytes_eq}
-use Rattle.bench_net.specs.declared.Sink.{Sink}
-use Rattle.bench_net.specs.declared.Sink.TheVariants as sink
-use Rattle.bench_net.specs.Statement.{Name, Statement, Gate}
+use Rattle.bench_net.specs.{declared.Sink.Sink, Statement.{Name, Statement, Gate}}
 use Rattle.bench_net.specs.Scan.{names, inputs, cells, sources, signal, name_of, observers}
 use Rattle.bench_net.specs.Circuit.{IsWellFormed}
+use Rattle.bench_net.proofs.Public.{same_bytes, bytes_refl, name_of-signal}
+use Rattle.bench_net.specs.declared.Sink.TheVariants as sink
 use Rattle.list_lemmas.proofs.Members.{Among, among, contained, among_left, among_right}
 use Rattle.list_lemmas.proofs.Places.{placed}
-use Rattle.bench_net.proofs.Public.{same_bytes, bytes_refl, name_of-signal}
-use Rattle.fault_model.specs.declared.Line.{Line}
-use Rattle.fault_model.specs.declared.Line.TheVariants as line
-use Rattle.fault_model.specs.declared.Model.{Model}
+use Rattle.fault_model.specs.{declared.Line.Line, declared.Model.Model, Detection.HasBit}
 use Rattle.fault_model.specs.Fault.{Fault, branch, branches, faults, same_line}
 use Rattle.fault_model.specs.Solution.{Test, Solves, Detects, value, under, shows}
-use Rattle.fault_model.specs.Detection.{HasBit}
 use Rattle.fault_model.proofs.Public.{Driven, IsOn, agree, branch_among, defined_among, driven}
 use Rattle.fault_model.proofs.Public.{has_solutions, listed_on, observes, pin_reads, signal_apart}
 use Rattle.fault_model.proofs.Public.{under_other, under_own}
+use Rattle.fault_model.specs.declared.Line.TheVariants as line
 use Rattle.flat_circuit.specs.Regions.{IsReadBy}
 use Rattle.block_sim.specs.Flips.{Alters, DetectsFlip, flip, complemented_at}
 use Rattle.block_sim.proofs.EnteredGates.{Enters, Follows, IsFree, IsOnlyFor, arg_named, free_pins}
@@ -102,8 +98,7 @@ module _ (c : List Statement) (well : IsWellFormed c) where
 
   pub bit_is : (t : Test) (n : Name) (b : Bool) (u : Name → Bool) → Among n (names c)
       → HasBit c t (line.Stem (signal c n)) b → Solves c t None u → u n ≡ b
-  bit_is t n b u a h p =
-      agree c t None u h.0 well p h.2 n (contained (names c) n a)
+  bit_is t n b u a h p = agree c t None u h.0 well p h.2 n (contained (names c) n a)
       ∙ (ap h.0 (sym (one_name h.1 n a h.3)) ∙ h.4)
 
   pub altered : (t : Test) (f : Fault) (n : Name) (u v : Name → Bool) → Among n (names c)
@@ -111,8 +106,7 @@ module _ (c : List Statement) (well : IsWellFormed c) where
   altered t f n u v a h p q =
       let is = one_name h.name n a h.named in
       let at = contained (names c) n a in
-      agree c t (Some f) v h.faulty well q h.solves_faulty n at
-      ∙ (ap h.faulty (sym is)
+      agree c t (Some f) v h.faulty well q h.solves_faulty n at ∙ (ap h.faulty (sym is)
       ∙ (turned_of (h.fault_free h.name) (h.faulty h.name) h.differs
       ∙ ap not (ap h.fault_free is ∙ agree c t None h.fault_free u well h.solves p n at)))
 
@@ -248,8 +242,7 @@ module _ (c : List Statement) (well : IsWellFormed c) where
     pub stem_back : Alters c t f (signal c n) → DetectsFlip c t (signal c n) → Detects c t f
     stem_back h d =
         let u = d.2.0 in
-        let stuck : not d.0 ≡ f.stuck =
-        ap not (sym (bit_is t n d.0 u a d.1 d.2.3))
+        let stuck : not d.0 ≡ f.stuck = ap not (sym (bit_is t n d.0 u a d.1 d.2.3))
         ∙ (sym (altered t f n u h.faulty a h d.2.3 h.solves_faulty)
         ∙ stem_stuck t f h.faulty n h.solves_faulty a on) in
         detects_alike c t (flip (signal c n) d.0) f (sym on) stuck d.2
@@ -298,12 +291,10 @@ stem_enters c g s well h =
     let reads : Among r.read r.args = among r.args r.read r.reads in
     let only : IsOnlyFor c r.name r.args r.read = record {
       reads = reads;
-      alone = λ x kind others at a.
-          signal_apart c x r.name (contained (names c) x
+      alone = λ x kind others at a. signal_apart c x r.name (contained (names c) x
           (defined_among c (Gate x kind others) x at refl))
           (contained (names c) r.name (defined_among c (Gate r.name r.kind r.args) r.name stands
-          refl))
-          (h.alone (signal c x) (record {
+          refl)) (h.alone (signal c x) (record {
             name = x;
             kind = kind;
             args = others;
@@ -363,8 +354,7 @@ module _ (c : List Statement) (well : IsWellFormed c) (t : Test) (s : ℕ)
               outside c t (flip s b) None v u well e q p (λ m x ne. tt) a here
               (λ stems. (let h : line.Stem s ≡ line.Stem (signal c a) = stems in
               let number : signal c a ≡ s = cc in let yes = eq-eqb (signal c a) s number in
-              let bad : true ≡ false = sym yes ∙ other in cc))
-              (inl low)
+              let bad : true ≡ false = sym yes ∙ other in cc)) (inl low)
 
       pub gate_turned : v e.name ≡ value e.kind (map (complemented_at c s u) e.args)
       gate_turned =

@@ -1,24 +1,17 @@
 -- The lanes in which a complemented signal is detected, if each of some lanes is followed to the
 -- end.
 use Rattle.std.proofs.Common.{◌≡◌, ◌<◌, ℕ, refl, sym, ◌∙◌, ap, subst, Bool, true, false, List}
-use Rattle.std.proofs.Common.{length}
-use Rattle.std.specs.Prelude.{Some, None, slice_index_or}
+use Rattle.std.{proofs.Common.length, specs.Prelude.{Some, None, slice_index_or}}
 use Rattle.std.specs.Bool.{Decides}
-use Rattle.bench_net.specs.Statement.{Name, Statement}
-use Rattle.bench_net.specs.Scan.{names, signal, name_of}
-use Rattle.bench_net.specs.Circuit.{IsWellFormed}
-use Rattle.list_lemmas.proofs.Members.{Among, contained}
-use Rattle.list_lemmas.proofs.Places.{at_place, within_place}
-use Rattle.bench_net.proofs.Public.{signal-name_of}
+use Rattle.bench_net.specs.{Statement.{Name, Statement}, Scan.{names, signal, name_of}}
+use Rattle.bench_net.{specs.Circuit.IsWellFormed, proofs.Public.signal-name_of}
+use Rattle.list_lemmas.proofs.{Members.{Among, contained}, Places.{at_place, within_place}}
 use Rattle.fault_model.specs.declared.Line.TheVariants as line
-use Rattle.fault_model.specs.Solution.{Test, Detects}
-use Rattle.fault_model.specs.Detection.{HasBit}
+use Rattle.fault_model.specs.{Solution.{Test, Detects}, Detection.HasBit}
 use Rattle.fault_model.proofs.Public.{detection_is_of_any_solution, has_solutions}
-use Rattle.block_sim.specs.Flips.{DetectsFlip, flip}
-use Rattle.block_sim.specs.Propagation.{AreShown}
+use Rattle.block_sim.specs.{Flips.{DetectsFlip, flip}, Propagation.AreShown}
+use Rattle.block_sim.proofs.{FlipLanes.{flips, has_bit}, Flips.bit_is}
 use Rattle.flat_circuit.specs.Words.{lane, lane_bits, test_of, AreWords}
-use Rattle.block_sim.proofs.FlipLanes.{flips, has_bit}
-use Rattle.block_sim.proofs.Flips.{bit_is}
 
 module _ (c : List Statement) (well : IsWellFormed c) (tests : List Test) (group : ℕ)
     (good : List ℕ)
@@ -45,8 +38,7 @@ module _ (c : List Statement) (well : IsWellFormed c) (tests : List Test) (group
           let u = has_solutions c well t (Some (flips good s k)) in
           let is : Detects c t (flips good s k) =
           (detection_is_of_any_solution c well (flips good s k) t (lane_bits c good k) u.0
-          (words k lt) u.1).1
-          (f.1 u.0 u.1) in (
+          (words k lt) u.1).1 (f.1 u.0 u.1) in (
             lane (slice_index_or good s 0) k,
             has_bit c well tests group good words s low k lt,
             is,
@@ -62,8 +54,7 @@ module _ (c : List Statement) (well : IsWellFormed c) (tests : List Test) (group
           let same : d.0 ≡ lane (slice_index_or good s 0) k =
           sym first ∙ ap (λ x. lane (slice_index_or good x 0) k) number in
           v.2 ((detection_is_of_any_solution c well (flips good s k) t (lane_bits c good k) v.0
-          (words k lt)
-          v.1).0 (subst (λ b. Detects c t (flip s b)) same d.2))
+          (words k lt) v.1).0 (subst (λ b. Detects c t (flip s b)) same d.2))
 
       by : (b : Bool) → lane seen k ≡ b → DetectsFlip c (test_of tests group k) s
           → lane seen k ≡ true

@@ -1,22 +1,15 @@
 -- The law of the table: in a table of true outcomes, the least test of a class is the first test of
 -- each of its faults.
 use Rattle.std.proofs.Common.{◌≡◌, ◌<◌, ◌≤◌, ℕ, zero, suc, ◌+◌, ◌*◌, ◌-◌, sym, subst, List, ◌∷◌}
-use Rattle.std.proofs.Common.{length, arith, inl, inr, ◌⊎◌}
+use Rattle.std.proofs.{Common.{length, arith, inl, inr, ◌⊎◌}, lemmas.Bool.cases_lt}
 use Rattle.std.specs.Prelude.{Option, Some, None, map}
-use Rattle.std.proofs.lemmas.Bool.{cases_lt}
-use Rattle.bench_net.specs.Statement.{Statement}
-use Rattle.bench_net.specs.Circuit.{IsWellFormed, HaveArities}
+use Rattle.bench_net.specs.{Statement.Statement, Circuit.{IsWellFormed, HaveArities}}
 use Rattle.list_lemmas.proofs.Places.{place_within}
-use Rattle.fault_model.specs.declared.Model.{Model}
-use Rattle.fault_model.specs.Fault.{Fault}
-use Rattle.fault_model.specs.Solution.{Test}
+use Rattle.fault_model.specs.{declared.Model.Model, Fault.Fault, Solution.Test, Detection.DetectsAt}
 use Rattle.fault_model.specs.Collapse.{representatives, IsClassOf, AreEquivalent}
-use Rattle.fault_model.specs.Detection.{DetectsAt}
 use Rattle.fault_model.proofs.Public.{classes_detected_same, own_class}
-use Rattle.patterns.specs.declared.Outcome.{Outcome}
-use Rattle.patterns.specs.declared.Outcome.TheVariants.{Clear, Hit}
-use Rattle.patterns.specs.Tests.{blocks, size_of}
-use Rattle.patterns.specs.Least.{Table, from_up, first_hit, least}
+use Rattle.patterns.specs.declared.Outcome.{Outcome, TheVariants.{Clear, Hit}}
+use Rattle.patterns.specs.{Tests.{blocks, size_of}, Least.{Table, from_up, first_hit, least}}
 use Rattle.block_sim.specs.First.{IsFirst, IsOutcome, IsTrueOutcome, IsTrueTable, LeastIsFirst}
 
 -- the same tests detect a fault and the representative of its class; so an outcome of one on a
@@ -35,8 +28,7 @@ outcome_too c tests f r block (Hit k) to from h = (
 pub true_of_class : (m : Model) (c : List Statement) (tests : List Test) (f : Fault)
     (class block : ℕ) (o : Outcome) → IsWellFormed c → HaveArities c → IsClassOf m c f class
     → IsTrueOutcome m c tests class block o → IsOutcome c tests f block o
-true_of_class m c tests f class block o well arities of h =
-    outcome_too c tests f h.0 block o
+true_of_class m c tests f class block o well arities of h = outcome_too c tests f h.0 block o
     (λ t. (classes_detected_same c well arities f h.0 tests t both).0)
     (λ t. (classes_detected_same c well arities f h.0 tests t both).1) h.2
   where

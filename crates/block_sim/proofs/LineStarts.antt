@@ -1,29 +1,23 @@
 -- The start of a fault of the list: the signal that its line carries, and the first change on a
 -- stem or on a gate's pin.
-use Rattle.std.proofs.Common.{◌≡◌, ◌≢◌, ◌<◌, ◌≤◌, ℕ, ◌^◌, sym, ◌∙◌, ap, true, List, [], ◌∷◌}
-use Rattle.std.proofs.Common.{length, map, arith}
+use Rattle.std.proofs.Common.{◌≡◌, ◌≢◌, ◌<◌, ◌≤◌, ℕ, ◌^◌, sym, ◌∙◌, ap, true, List, [], ◌∷◌, length}
+use Rattle.std.{proofs.Common.{map, arith}, specs.Prelude.slice_index_or}
 use Rattle.std.specs.Prelude.{◌==◌, Contains, Some, None, bit_and, bit_xor, count_by}
-use Rattle.std.specs.Prelude.{slice_index_or}
-use Rattle.bench_net.specs.declared.Kind.{Kind}
-use Rattle.bench_net.specs.Statement.{Name, Statement, Gate}
+use Rattle.bench_net.specs.{declared.Kind.Kind, Statement.{Name, Statement, Gate}}
 use Rattle.bench_net.specs.Scan.{names, signal, name_of, definition, gate_of, gate_line}
 use Rattle.bench_net.specs.Circuit.{IsWellFormed}
 use Rattle.bench_net.proofs.Public.{definition_defines, name_of-signal, signal-name_of}
-use Rattle.list_lemmas.proofs.Members.{contained}
-use Rattle.list_lemmas.proofs.Places.{at_place, place_within}
+use Rattle.list_lemmas.proofs.{Members.contained, Places.{at_place, place_within}}
 use Rattle.fault_model.specs.declared.Line.TheVariants as line
-use Rattle.fault_model.specs.declared.Model.{Model}
-use Rattle.fault_model.specs.Detection.{argument, name_on}
-use Rattle.fault_model.specs.Fault.{Fault, faults}
-use Rattle.fault_model.specs.Solution.{Test, value}
+use Rattle.fault_model.specs.{declared.Model.Model, Detection.{argument, name_on}}
+use Rattle.fault_model.specs.{Fault.{Fault, faults}, Solution.{Test, value}}
 use Rattle.fault_model.proofs.Public.{carries}
 use lib.Bits.{and_le_r}
-use Rattle.block_sim.specs.ActiveGates.{AreInGroup, HasActiveIn}
-use Rattle.block_sim.specs.Propagation.{IsFirstChange}
-use Rattle.flat_circuit.specs.Words.{lane, pin_bits, AreWords}
-use Rattle.flat_circuit.proofs.Public.{pin_of, gate_within, no_loop, some_lane}
+use Rattle.block_sim.specs.{ActiveGates.{AreInGroup, HasActiveIn}, Propagation.IsFirstChange}
 use Rattle.block_sim.proofs.FaultStart.{first_on_pin, pin_active, stem_change, turned_is}
 use Rattle.block_sim.proofs.PendingGates.{count_one}
+use Rattle.flat_circuit.specs.Words.{lane, pin_bits, AreWords}
+use Rattle.flat_circuit.proofs.Public.{pin_of, gate_within, no_loop, some_lane}
 
 -- the signal that a fault's line carries, by its name and its number
 pub record IsCarried (c : List Statement) (f : Fault) (number : ℕ) : Type 0 where
@@ -86,12 +80,7 @@ module _ (c : List Statement) (m : Model) (f : Fault) (well : IsWellFormed c)
         let n = carries m c f well listed in
         let is = found n.0 n.1 in
         let lt = place_within (names c) _ n.0 (name_of-signal c n.0 n.2) in
-        record {
-          name = n.0;
-          on = n.1;
-          is = is;
-          within = omega (arith, lt, is);
-        }
+        record { name = n.0; on = n.1; is = is; within = omega (arith, lt, is) }
 
     -- and the word that it computes for the stuck bit
     module _ (good : List ℕ) (lanes word : ℕ) (stuck : (k : ℕ) → k < 128
@@ -123,8 +112,7 @@ module _ (c : List Statement) (m : Model) (f : Fault) (well : IsWellFormed c)
           (let le = and_le_r (bit_xor word (slice_index_or good number 0)) lanes in
           omega (arith, le, in_word)) in
           let k = some_lane excited below some in
-          let reads : argument (definition c gate) pin ≡ Some n.0 = ap (name_on c) (sym on)
-          ∙ n.1 in
+          let reads : argument (definition c gate) pin ≡ Some n.0 = ap (name_on c) (sym on) ∙ n.1 in
           let p = pin_of c gate pin n.0 reads in
           let d = definition_defines c gate (Gate p.name p.kind p.args) p.is in
           let head : p.name ∷ [] ≡ d.0 ∷ [] = d.1 in

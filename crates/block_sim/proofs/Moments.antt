@@ -1,36 +1,28 @@
 -- The step from one moment of an event-driven simulation to a later one.
 use Rattle.std.proofs.Common.{◌≡◌, ◌≢◌, ◌<◌, ◌≤◌, ◌⊎◌, ℕ, ◌+◌, refl, sym, ◌∙◌, ap, subst, true}
-use Rattle.std.proofs.Common.{List}
-use Rattle.std.proofs.Common.{length, map, arith, set, inl, inr}
+use Rattle.std.{proofs.Common.{List, length, map, arith, set, inl, inr}, specs.Prelude.◌==◌}
 use Rattle.std.specs.Prelude.{Some, None, slice_index_or, slice_set, bit_or, bit_xor, count_by}
-use Rattle.std.specs.Prelude.{◌==◌}
-use Rattle.std.specs.Bool.{Decides}
-use Rattle.std.proofs.lemmas.Bool.{cases_lt}
+use Rattle.std.{specs.Bool.Decides, proofs.lemmas.Bool.cases_lt}
 use Rattle.std.proofs.lemmas.List.{length-set, set-set, set-get_or, get_or-set_same}
 use Rattle.std.proofs.lemmas.List.{get_or-set_other, get_or_past}
-use Rattle.bench_net.specs.declared.Kind.{Kind}
-use Rattle.bench_net.specs.Statement.{Statement}
-use Rattle.bench_net.specs.Scan.{gate_of, signal}
+use Rattle.bench_net.specs.{declared.Kind.Kind, Statement.Statement, Scan.{gate_of, signal}}
 use Rattle.bench_net.specs.Circuit.{IsWellFormed}
-use Rattle.fault_model.specs.Fault.{Fault}
-use Rattle.fault_model.specs.Solution.{Test, value}
+use Rattle.fault_model.specs.{Fault.Fault, Solution.{Test, value}}
 use Rattle.event_queue.proofs.Public.{index_zero}
 use Rattle.block_sim.specs.declared.propagation_state.PropagationState.{PropagationState}
 use Rattle.block_sim.specs.PropagationState.{HasRoomFor, IsAsLarge, IsClear, IsTaken}
-use Rattle.flat_circuit.specs.Readers.{IsLive, IsObserved, IsRising, Reads}
-use Rattle.block_sim.specs.Events.{AreScheduled}
+use Rattle.block_sim.{specs.Events.AreScheduled, proofs.FirstChange.{spreading_first, count_first}}
 use Rattle.block_sim.specs.Moments.{Case, Leads, Moment, Spreads, left, moment}
 use Rattle.block_sim.specs.Propagation.{IsFirstChange, IsPropagating, AreSeen, pending_gates}
-use Rattle.flat_circuit.specs.Words.{lane, pin_bits}
 use Rattle.block_sim.proofs.PendingGates.{pending_cleared, pending_higher}
-use Rattle.block_sim.proofs.FirstChange.{spreading_first, count_first}
-use Rattle.block_sim.proofs.SignalEquations.{gate_named}
-use Rattle.flat_circuit.proofs.Public.{no_loop, reader_within, restored}
+use Rattle.block_sim.proofs.{SignalEquations.gate_named, SeenLanes.{from_none, with_none}}
 use Rattle.block_sim.proofs.SeenLanes.{seen_changed, seen_first, seen_like, seen_narrower}
-use Rattle.block_sim.proofs.SeenLanes.{from_none, with_none}
 use Rattle.block_sim.proofs.PropagationSteps.{pending_changed, pending_same, evaluated_changed}
 use Rattle.block_sim.proofs.PropagationSteps.{evaluated_same, level_done, spreading_cleared}
 use Rattle.block_sim.proofs.PropagationSteps.{spreading_narrower}
+use Rattle.flat_circuit.specs.Readers.{IsLive, IsObserved, IsRising, Reads}
+use Rattle.flat_circuit.specs.Words.{lane, pin_bits}
+use Rattle.flat_circuit.proofs.Public.{no_loop, reader_within, restored}
 
 -- a moment, by all its parts
 abbrev pub moment_of : List ℕ → List ℕ → ℕ → ℕ → ℕ → ℕ → Moment
@@ -72,8 +64,7 @@ module _ (c : List Statement) (good : List ℕ) (lanes : ℕ) where
       → Leads c good lanes (moment_of delta at evaluations level kept seen)
       (moment_of delta at evaluations level narrow seen)
   leads_narrower delta at evaluations level kept seen narrow within = record {
-    spreading = λ case h.
-        spreading_narrower c case.tests case.group case.fault good lanes (λ s. s)
+    spreading = λ case h. spreading_narrower c case.tests case.group case.fault good lanes (λ s. s)
         case.start kept delta at level narrow within h;
     counted = λ case gates h all. omega arith;
     seen = seen_narrower c delta kept seen narrow within;
@@ -87,8 +78,7 @@ module _ (c : List Statement) (good : List ℕ) (lanes : ℕ) where
       → Leads c good lanes (moment_of delta at evaluations level kept seen)
       (moment_of delta at evaluations next kept seen)
   leads_higher delta at evaluations level next kept seen le above = record {
-    spreading = λ case h.
-        level_done c case.tests case.group case.fault good lanes (λ s. s)
+    spreading = λ case h. level_done c case.tests case.group case.fault good lanes (λ s. s)
         case.start kept delta at level next le above h;
     counted = λ case gates h all. let less =
         pending_higher (λ s. s) at level next gates le in omega (arith, less);
@@ -111,8 +101,7 @@ module _ (c : List Statement) (good : List ℕ) (lanes : ℕ) where
 
   -- ---- no lane is followed or no gate waits, and the waiting gates are cleared
   pub leads_cleared : (delta at idle : List ℕ) (evaluations level kept seen : ℕ)
-      → ((g : ℕ) → slice_index_or idle g 0 ≡ 0)
-      → (kept ≡ 0) ⊎ ((g : ℕ) → slice_index_or at g 0 ≡ 0)
+      → ((g : ℕ) → slice_index_or idle g 0 ≡ 0) → (kept ≡ 0) ⊎ ((g : ℕ) → slice_index_or at g 0 ≡ 0)
       → Leads c good lanes (moment_of delta at evaluations level kept seen)
       (moment_of delta idle evaluations level kept seen)
   leads_cleared delta at idle evaluations level kept seen clear stop = record {
@@ -129,8 +118,7 @@ module _ (c : List Statement) (good : List ℕ) (lanes : ℕ) where
   -- ---- it is evaluated
   module _ (well : IsWellFormed c) (delta at : List ℕ) (before after kept seen gate : ℕ)
       (in_at : gate < length at) (in_delta : gate < length delta) (waits : slice_index_or at gate 0
-      ≡ 0)
-      (grown : before ≤ after) (one : after ≤ before + 1) (kind : Kind) (pins : List ℕ)
+      ≡ 0) (grown : before ≤ after) (one : after ≤ before + 1) (kind : Kind) (pins : List ℕ)
       (is : gate_of c gate ≡ Some (kind, pins)) (word : ℕ)
       (valued : (k : ℕ) → k < 128 → lane word k ≡ value kind (pin_bits None gate pins good delta k))
     where
@@ -155,8 +143,7 @@ module _ (c : List Statement) (good : List ℕ) (lanes : ℕ) where
         spreading = λ case h.
             let lv : ℕ → ℕ = (λ s. s) in
             subst (λ x. IsPropagating c case.tests case.group case.fault good lanes lv case.start
-            kept
-            delta x gate) back
+            kept delta x gate) back
             (evaluated_same c case.tests case.group case.fault good lanes lv case.start kept well
             case.rising case.elsewhere
             delta taken_at gate gate h taken refl in_taken in_delta kind pins is word valued same);
@@ -185,27 +172,18 @@ module _ (c : List Statement) (good : List ℕ) (lanes : ℕ) where
           → Leads c good lanes (moment_of delta (slice_set at gate 1) before gate kept
           seen) (moment_of now new after gate kept (bit_or seen shown))
       leads_changed diff shown now new clear is_now differs a_lane in_kept changed scheduled
-          observed =
-          subst (λ x. Leads c good lanes
+          observed = subst (λ x. Leads c good lanes
           (moment_of delta (slice_set at gate 1) before gate
-          kept seen) (moment_of x new after gate kept (bit_or seen shown))) (sym is_now)
-          (record {
-            spreading = λ case h.
-                evaluated_changed c case.tests case.group case.fault good lanes
-                (λ s. s) case.start kept well
-                case.rising case.elsewhere
+          kept seen) (moment_of x new after gate kept (bit_or seen shown))) (sym is_now) (record {
+            spreading = λ case h. evaluated_changed c case.tests case.group case.fault good lanes
+                (λ s. s) case.start kept well case.rising case.elsewhere
                 delta taken_at gate gate h taken refl in_taken in_delta kind pins is word valued
-                diff
-                new
-                differs a_lane in_kept changed scheduled_now;
+                diff new differs a_lane in_kept changed scheduled_now;
             counted = λ case gates h all.
                 let less = pending_changed c case.tests case.group case.fault good lanes
-                (λ s. s) case.start kept well
-                case.rising case.elsewhere
+                (λ s. s) case.start kept well case.rising case.elsewhere
                 delta taken_at gate gate h taken refl in_taken in_delta kind pins is word valued
-                diff
-                new
-                differs a_lane in_kept changed scheduled_now gates all in
+                diff new differs a_lane in_kept changed scheduled_now gates all in
                 omega (arith, less, one);
             seen = seen_changed c delta kept seen gate diff shown clear in_delta observed;
             more = more;
@@ -260,8 +238,7 @@ module _ (c : List Statement) (tests : List Test) (group : ℕ) (f : ℕ
   pub first_left : (gates : List ℕ)
       → left c (case_of c tests group f good lanes before.overlay start diff first rising)
       (moment after start kept seen) gates + count_by (λ g. g == start) gates ≤ length gates
-  first_left gates =
-      count_first c tests group f good lanes (λ s. s) start well
+  first_left gates = count_first c tests group f good lanes (λ s. s) start well
       rising before.overlay before.waiting after.waiting
       (λ t. index_zero before.waiting t clear.gates) scheduled gates
 
@@ -286,8 +263,7 @@ first_seen c lanes before after start diff seen kept rest changed within shown n
 pub taken_now : (c : List Statement) (good : List ℕ) (lanes : ℕ) (well : IsWellFormed c)
     (case : Case c) (at : List ℕ) (level kept seen gate : ℕ) (t : PropagationState)
     → Spreads c good lanes case (moment_of t.overlay at t.evaluations level kept seen)
-    → gate < length at → slice_index_or at gate 0 ≡ 1 → t.waiting ≡ set at gate 0
-    → IsTaken c t gate
+    → gate < length at → slice_index_or at gate 0 ≡ 1 → t.waiting ≡ set at gate 0 → IsTaken c t gate
 taken_now c good lanes well case at level kept seen gate t h in_at is taken =
     let waits : slice_index_or at gate 0 ≢ 0 = (λ e. omega (arith, e, is)) in
     let by = h.touched gate waits in
@@ -336,10 +312,7 @@ large_none m = record { overlay = refl; gates = refl }
 
 -- a state is as large, through one between them
 pub large_on : (l m n : PropagationState) → IsAsLarge l m → IsAsLarge m n → IsAsLarge l n
-large_on l m n a b = record {
-  overlay = b.overlay ∙ a.overlay;
-  gates = b.gates ∙ a.gates;
-}
+large_on l m n a b = record { overlay = b.overlay ∙ a.overlay; gates = b.gates ∙ a.gates }
 
 pub large_enough : (c : List Statement) (m n : PropagationState) → HasRoomFor c m → IsAsLarge m n
     → HasRoomFor c n

@@ -1,18 +1,13 @@
 -- A test detects an observed signal that is complemented.
-use Rattle.std.proofs.Common.{◌≡◌, refl, sym, ◌∙◌, ap, ℕ, not, List}
-use Rattle.std.specs.Prelude.{None, Some}
-use Rattle.bench_net.specs.Statement.{Statement}
-use Rattle.bench_net.specs.Scan.{name_of, names, signal}
-use Rattle.bench_net.specs.Circuit.{IsWellFormed}
-use Rattle.bench_net.proofs.Public.{name_of-signal}
+use Rattle.std.{proofs.Common.{◌≡◌, refl, sym, ◌∙◌, ap, ℕ, not, List}, specs.Prelude.{None, Some}}
+use Rattle.bench_net.specs.{Statement.Statement, Scan.{name_of, names, signal}}
+use Rattle.bench_net.{specs.Circuit.IsWellFormed, proofs.Public.name_of-signal}
 use Rattle.list_lemmas.proofs.Members.{among}
 use Rattle.fault_model.specs.declared.Line.TheVariants as line
-use Rattle.fault_model.specs.Fault.{branch}
-use Rattle.fault_model.specs.Solution.{Test}
+use Rattle.fault_model.specs.{Fault.branch, Solution.Test}
 use Rattle.fault_model.proofs.Public.{has_solutions, observes, under_other}
 use Rattle.flat_circuit.specs.Readers.{IsObserved}
-use Rattle.block_sim.specs.Flips.{DetectsFlip, flip}
-use Rattle.block_sim.proofs.Flips.{not_itself, stem_stuck}
+use Rattle.block_sim.{specs.Flips.{DetectsFlip, flip}, proofs.Flips.{not_itself, stem_stuck}}
 
 pub observed_flip : (c : List Statement) (t : Test) (s : ℕ) → IsWellFormed c → IsObserved c s
     → DetectsFlip c t s

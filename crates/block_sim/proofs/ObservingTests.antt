@@ -1,14 +1,11 @@
 -- The tests of a block that detect a complemented signal, from a word of lanes in which they do.
 use Rattle.std.proofs.Common.{◌≡◌, ◌<◌, ℕ, ◌+◌, ◌*◌, ◌-◌, ◌/◌, sym, ◌∙◌, subst, List, [], length}
-use Rattle.std.proofs.Common.{arith, true}
-use Rattle.std.specs.Prelude.{Some, slice_get}
-use Rattle.std.specs.Bool.{Decides}
+use Rattle.std.{proofs.Common.{arith, true}, specs.Prelude.{Some, slice_get}, specs.Bool.Decides}
 use Rattle.list_lemmas.proofs.Places.{within_place, place_within}
 use Rattle.bench_net.specs.Statement.{Statement}
 use Rattle.fault_model.specs.Solution.{Test}
 use Rattle.block_sim.specs.Flips.{AreObserving, DetectsFlip, DetectsFlipAt}
-use Rattle.flat_circuit.specs.BlockSpans.{IsInSpan, one_block}
-use Rattle.flat_circuit.specs.Words.{lane, test_of}
+use Rattle.flat_circuit.specs.{BlockSpans.{IsInSpan, one_block}, Words.{lane, test_of}}
 use Rattle.flat_circuit.proofs.Public.{index_of}
 
 module _ (c : List Statement) (tests : List Test) (block s word own : ℕ)
@@ -43,8 +40,7 @@ module _ (c : List Statement) (tests : List Test) (block s word own : ℕ)
       let listed = place_within tests (64 * block + k) d.0 d.1 in
       let n = 128 * (block / 2) + place k in
       let at = subst (λ m. slice_get tests m ≡ Some d.0) here d.1 in
-      half k (place k) lt here
-      ∙ (decides (place k) (low k lt)).1 (
+      half k (place k) lt here ∙ (decides (place k) (low k lt)).1 (
         record {
           from = omega (arith, here);
           to = omega (arith, here, lt);

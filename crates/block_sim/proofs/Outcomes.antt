@@ -1,24 +1,17 @@
 -- The first test of a span that detects a fault, from a word of lanes in which it is detected: the
 -- test of the least lane, whatever the word leaves out above it. And the outcome on each block.
 use Rattle.std.proofs.Common.{◌≡◌, ◌<◌, ◌≤◌, ℕ, ◌+◌, ◌*◌, ◌-◌, min, sym, subst, true, false, List}
-use Rattle.std.proofs.Common.{[]}
-use Rattle.std.proofs.Common.{length, arith}
+use Rattle.std.proofs.Common.{[], length, arith}
 use Rattle.list_lemmas.proofs.Places.{within_place}
 use Rattle.bench_net.specs.Statement.{Statement}
-use Rattle.fault_model.specs.Fault.{Fault}
-use Rattle.fault_model.specs.Solution.{Test, Detects}
-use Rattle.fault_model.specs.Detection.{DetectsAt}
+use Rattle.fault_model.specs.{Fault.Fault, Solution.{Test, Detects}, Detection.DetectsAt}
 use Rattle.patterns.specs.declared.Outcome.TheVariants.{Clear, Hit}
-use Rattle.flat_circuit.specs.declared.block_span.BlockSpan.{BlockSpan}
-use Rattle.block_sim.specs.First.{IsOutcome, TellsFirst}
-use Rattle.block_sim.specs.Flips.{AreLanesFor}
-use Rattle.flat_circuit.specs.BlockSpans.{IsSpan, group_of}
-use Rattle.flat_circuit.specs.Words.{lane, test_of}
-use Rattle.flat_circuit.proofs.Public.{index_of}
+use Rattle.flat_circuit.specs.{declared.block_span.BlockSpan.BlockSpan, Words.{lane, test_of}}
+use Rattle.flat_circuit.{specs.BlockSpans.{IsSpan, group_of}, proofs.Public.index_of}
+use Rattle.block_sim.specs.{First.{IsOutcome, TellsFirst}, Flips.AreLanesFor}
 
 module _ (c : List Statement) (tests : List Test) (span : BlockSpan) (f : Fault) (lanes word : ℕ)
-    (decides : AreLanesFor tests span c f lanes)
-    (found : (k : ℕ) → k < 128 → lane word k ≡ true
+    (decides : AreLanesFor tests span c f lanes) (found : (k : ℕ) → k < 128 → lane word k ≡ true
     → (lane lanes k ≡ true) × Detects c (test_of tests (group_of span) k) f)
     (clear : (k : ℕ) → k < 128 → lane lanes k ≡ true → ((j : ℕ) → j ≤ k → lane word j ≡ false)
     → Detects c (test_of tests (group_of span) k) f → ⊥) where
@@ -53,8 +46,7 @@ module _ (c : List Statement) (tests : List Test) (span : BlockSpan) (f : Fault)
         from = omega (arith, from, place);
         to = omega (arith, to, le, place);
         listed = omega (arith, le, place);
-      })
-      (λ j low. none j (omega (arith, low, le, place)))
+      }) (λ j low. none j (omega (arith, low, le, place)))
       (subst (DetectsAt c tests f) (sym place) d)
 
   -- the block of the least lane that is 1
@@ -76,19 +68,11 @@ module _ (c : List Statement) (tests : List Test) (span : BlockSpan) (f : Fault)
           λ lower low d.
               let there : 128 * group_of span + (k - (test - lower)) ≡ 64 * block + lower =
               omega (arith, place, low, few, from) in
-              first.clear (k - (test - lower)) (omega (arith, lt))
-              (record {
+              first.clear (k - (test - lower)) (omega (arith, lt)) (record {
                 from = omega (arith, from, place, there, low, few);
                 to = omega (arith, to, place, there, low);
-                listed = omega (
-                  arith,
-                  listed,
-                  place,
-                  there,
-                  low,
-                );
-              })
-              (λ j le. least j (omega (arith, le, low, place, there)))
+                listed = omega (arith, listed, place, there, low);
+              }) (λ j le. least j (omega (arith, le, low, place, there)))
               (subst (DetectsAt c tests f) (sym there) d),
         ),
       )

@@ -1,13 +1,10 @@
 -- The lanes of capture tests, the second tests of pairs.
 use Rattle.std.proofs.Common.{◌≡◌, ◌⊎◌, ◌<◌, ◌≤◌, ◌+◌, ◌*◌, ◌/◌, ◌%◌, ◌&&◌, inl, inr, ℕ, zero, suc}
-use Rattle.std.proofs.Common.{Bool, true, refl, sym, ap, ◌∙◌, subst, arith}
-use Rattle.std.specs.Prelude.{◌==◌, bit_and}
-use Rattle.std.specs.Bool.{Decides}
-use Rattle.std.specs.Int.{bit_at}
+use Rattle.std.{proofs.Common.{Bool, true, refl, sym, ap, ◌∙◌, subst, arith}, specs.Bool.Decides}
+use Rattle.std.specs.{Prelude.{◌==◌, bit_and}, Int.bit_at}
 use Rattle.std.proofs.lemmas.Bool.{and_parts, cases_lt, eqb-true, eq-eqb}
 use Rattle.fault_model.specs.Detection.{IsSecondOfPair}
-use Rattle.flat_circuit.specs.Words.{lane}
-use Rattle.flat_circuit.proofs.Public.{lane_and}
+use Rattle.flat_circuit.{specs.Words.lane, proofs.Public.lane_and}
 
 odd_second : (t : ℕ) → t % 2 ≡ 1 → IsSecondOfPair t
 odd_second t e = (t / 2, omega (arith, e))

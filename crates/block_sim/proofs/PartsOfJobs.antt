@@ -1,13 +1,9 @@
 -- The parts of a job, as its box lends them.
-use Rattle.std.proofs.Common.{◌≡◌, ◌∙◌, ℕ, ap, Global, length, subst, sym, Vec}
-use Rattle.std.specs.Prelude.{map}
+use Rattle.std.{proofs.Common.{◌≡◌, ◌∙◌, ℕ, ap, Global, length, subst, sym, Vec}, specs.Prelude.map}
 use Rattle.bench_net.specs.Scan.{sources}
 use Rattle.patterns.specs.Tests.{IsTestList, TestList}
-use Rattle.flat_circuit.specs.GroupRows.{AreFaultFree}
-use Rattle.block_sim.specs.Job.{IsJob}
-use Rattle.flat_circuit.specs.BlockSpans.{groups}
-use Rattle.block_sim.specs.Parts.{Parts}
-use Rattle.block_sim.specs.declared.job.JobParts.{JobParts}
+use Rattle.flat_circuit.specs.{GroupRows.AreFaultFree, BlockSpans.groups}
+use Rattle.block_sim.specs.{Job.IsJob, Parts.Parts, declared.job.JobParts.JobParts}
 
 -- the view of a job with these parts
 abbrev pub view_of : JobParts → Parts
@@ -26,8 +22,7 @@ IsWhole parts = IsJob (view_of parts) parts.flat.arranged (map (λ row. row.item
 pub whole : {lent own : JobParts} → lent ≡ own → IsWhole own → IsWhole lent
 whole same is = subst IsWhole (sym same) is
 
-pub seen : {lent own : JobParts} {job : Parts} → lent ≡ own → view_of own ≡ job
-    → view_of lent ≡ job
+pub seen : {lent own : JobParts} {job : Parts} → lent ≡ own → view_of own ≡ job → view_of lent ≡ job
 seen same is = ap view_of same ∙ is
 
 -- with other tests and their words they are still the parts of a job
@@ -35,8 +30,7 @@ pub taken : (own new : JobParts) (tests : TestList) (rows : Vec (Vec ℕ Global)
     → new ≡ record own { tests = tests; rows = rows } → IsWhole own → IsTestList tests
     → tests.width ≡ length (sources own.flat.statements)
     → length (map (λ row. row.items) rows.items) ≡ groups (length tests.tests)
-    → AreFaultFree own.flat.arranged tests.tests (map (λ row. row.items) rows.items)
-    → IsWhole new
+    → AreFaultFree own.flat.arranged tests.tests (map (λ row. row.items) rows.items) → IsWhole new
 taken own new tests rows is was listed width count words = subst IsWhole (sym is) (record {
   together = record {
     circuit = was.together.circuit;

@@ -1,17 +1,15 @@
 -- The number of gates that are still to be evaluated at most: the gates that wait, and the gates
 -- above the level.
-use Rattle.std.proofs.Common.{◌≡◌, ◌≢◌, ◌<◌, ◌≤◌, ℕ, ◌+◌, refl, sym, ◌∙◌, ap, Bool, true}
-use Rattle.std.proofs.Common.{false, not, cond, List, [], ◌∷◌, length, arith, set, inl, inr, ◌⊎◌}
+use Rattle.std.proofs.Common.{◌≡◌, ◌≢◌, ◌<◌, ◌≤◌, ℕ, ◌+◌, refl, sym, ◌∙◌, ap, Bool, true, false}
+use Rattle.std.proofs.Common.{not, cond, List, [], ◌∷◌, length, arith, set, inl, inr, ◌⊎◌}
 use Rattle.std.specs.Prelude.{Contains, count_by, slice_index_or, nat_lt, ◌==◌}
-use Rattle.std.proofs.lemmas.List.{get_or-set_same, get_or-set_other}
-use Rattle.std.proofs.lemmas.List.Sums.{sum_by-cons}
+use Rattle.std.proofs.lemmas.List.{get_or-set_same, get_or-set_other, Sums.sum_by-cons}
 use Rattle.std.proofs.lemmas.Bool.{cases_eq, false≢true, ltb-true, lt-ltb, le-ltb, eq-eqb, eqb-true}
 use Rattle.std.proofs.lemmas.Bool.{or_left, or_right, or_cases}
 use Rattle.bench_net.specs.Statement.{Statement}
 use Rattle.list_lemmas.proofs.Members.{Among, among}
 use Rattle.flat_circuit.specs.Readers.{Reads, IsLive}
-use Rattle.block_sim.specs.Events.{AreScheduled}
-use Rattle.block_sim.specs.Propagation.{is_pending}
+use Rattle.block_sim.specs.{Events.AreScheduled, Propagation.is_pending}
 
 abbrev weight : Bool → ℕ
 weight b = cond b 1 0
@@ -119,8 +117,7 @@ pending_scheduled c lv before after level s gates above scheduled =
 pub pending_higher : (lv : ℕ → ℕ) (at : List ℕ) (level next : ℕ) (gates : List ℕ) → level ≤ next
     → count_by (is_pending lv at next) gates ≤ count_by (is_pending lv at level) gates
 pending_higher lv at level next gates le = count_le (is_pending lv at level) (is_pending lv at next)
-    gates
-    kept
+    gates kept
   where
     kept : (x : ℕ) → is_pending lv at next x ≡ true → is_pending lv at level x ≡ true
     kept x e = go (pending_cases lv at next x e)

@@ -1,27 +1,21 @@
 -- The invariant of an event-driven simulation: one evaluation keeps it.
 use Rattle.std.proofs.Common.{◌≡◌, ◌≢◌, ◌<◌, ◌≤◌, ℕ, ◌+◌, sym, ◌∙◌, ap, subst, true, List, length}
-use Rattle.std.proofs.Common.{arith, set, inl, inr, ◌⊎◌}
+use Rattle.std.proofs.{Common.{arith, set, inl, inr, ◌⊎◌}, lemmas.Bool.{cases_eq, false≢true}}
 use Rattle.std.specs.Prelude.{Some, None, slice_index_or, bit_xor}
 use Rattle.std.proofs.lemmas.List.{get_or-set_same, get_or-set_other}
-use Rattle.std.proofs.lemmas.Bool.{cases_eq, false≢true}
-use Rattle.bench_net.specs.declared.Kind.{Kind}
-use Rattle.bench_net.specs.Statement.{Statement}
-use Rattle.bench_net.specs.Scan.{names, signal, gate_of}
+use Rattle.bench_net.specs.{declared.Kind.Kind, Statement.Statement, Scan.{names, signal, gate_of}}
 use Rattle.bench_net.specs.Circuit.{IsWellFormed}
 use Rattle.list_lemmas.proofs.Members.{among}
-use Rattle.fault_model.specs.Fault.{Fault}
-use Rattle.fault_model.specs.Solution.{Test, value}
-use Rattle.flat_circuit.specs.Words.{lane, pin_bits, test_of}
-use Rattle.flat_circuit.specs.Readers.{Reads, IsLive}
+use Rattle.fault_model.specs.{Fault.Fault, Solution.{Test, value}}
+use Rattle.flat_circuit.specs.{Words.{lane, pin_bits, test_of}, Readers.{Reads, IsLive}}
+use Rattle.flat_circuit.proofs.Public.{lane_of_zero}
 use Rattle.block_sim.specs.Events.{bits_of, HasEquation, IsElsewhere, AreScheduled}
 use Rattle.block_sim.specs.Propagation.{IsPropagating, IsBalanced, Counts, IsRightIn, HasTouched}
-use Rattle.block_sim.specs.Propagation.{pending_gates}
+use Rattle.block_sim.{specs.Propagation.pending_gates, proofs.SignalEquations.word_other}
 use Rattle.block_sim.proofs.Balanced.{balanced_same, balanced_changed}
-use Rattle.block_sim.proofs.SignalEquations.{word_other}
 use Rattle.block_sim.proofs.CountedSignals.{counts_closed, reader_live}
 use Rattle.block_sim.proofs.TrueBelowLevel.{right_by_now}
 use Rattle.block_sim.proofs.PendingGates.{pending_taken, pending_scheduled}
-use Rattle.flat_circuit.proofs.Public.{lane_of_zero}
 
 module _ (c : List Statement) (tests : List Test) (group : ℕ) (f : ℕ
     → Fault) (good : List ℕ) (lanes : ℕ) (lv : ℕ → ℕ) (start mask : ℕ) where
@@ -100,8 +94,7 @@ module _ (c : List Statement) (tests : List Test) (group : ℕ) (f : ℕ
 
     module _ (diff : ℕ) (after : List ℕ) (differs : diff ≢ 0) (a_lane : (k : ℕ) × (k < 128)
         × (lane diff k ≡ true)) (in_mask : (k : ℕ) → k < 128 → lane diff k ≡ true
-        → lane mask k ≡ true)
-        (changed : (k : ℕ) → k < 128 → lane mask k ≡ true
+        → lane mask k ≡ true) (changed : (k : ℕ) → k < 128 → lane mask k ≡ true
         → lane (bit_xor (slice_index_or good g 0) diff) k ≡ lane word k)
         (scheduled : AreScheduled c g (set at g 0) after) where
       new_at : slice_index_or (set delta g diff) g 0 ≡ diff
@@ -254,8 +247,7 @@ module _ (c : List Statement) (tests : List Test) (group : ℕ) (f : ℕ
 -- fewer lanes are followed
 pub spreading_narrower : (c : List Statement) (tests : List Test) (group : ℕ) (f : ℕ
     → Fault) (good : List ℕ) (lanes : ℕ) (lv : ℕ → ℕ) (start mask : ℕ) (delta at : List ℕ)
-    (level narrow : ℕ)
-    → ((k : ℕ) → k < 128 → lane narrow k ≡ true → lane mask k ≡ true)
+    (level narrow : ℕ) → ((k : ℕ) → k < 128 → lane narrow k ≡ true → lane mask k ≡ true)
     → IsPropagating c tests group f good lanes lv start mask delta at level
     → IsPropagating c tests group f good lanes lv start narrow delta at level
 spreading_narrower c tests group f good lanes lv start mask delta at level narrow within h =

@@ -2,35 +2,24 @@
 use Rattle.std.proofs.Common.{◌≡◌, ◌<◌, ◌≤◌, ℕ, ◌+◌, refl, sym, ◌∙◌, ap, subst, Bool, true, false}
 use Rattle.std.proofs.Common.{not, ◌&&◌, List, [], ◌∷◌, length, set, arith, eqb-true, eq-eqb}
 use Rattle.std.specs.Prelude.{◌≢◌, ◌↔◌, ◌==◌, All, Contains, Some, None, map, slice_index_or}
-use Rattle.std.specs.Prelude.{bit_and, bit_xor, if◌then◌else◌, unwrap_or}
-use Rattle.std.specs.Bool.{Decides}
-use Rattle.std.specs.List.{enumerate_from}
-use Rattle.std.proofs.lemmas.Bool.{false≢true}
+use Rattle.std.specs.{Prelude.{bit_and, bit_xor, if◌then◌else◌, unwrap_or}, Bool.Decides}
+use Rattle.std.{specs.List.enumerate_from, proofs.lemmas.Bool.false≢true}
 use Rattle.std.proofs.lemmas.List.{get_or-set_same, get_or-set_other}
 use Rattle.event_queue.proofs.Public.{index_zero}
 use Rattle.flat_circuit.proofs.Public.{never, lane_same, lane_and, lane_xor, unlike, lane_of_zero}
 use Rattle.flat_circuit.proofs.Public.{left_of, only_lanes, right_of, turned_lanes}
-use Rattle.bench_net.specs.declared.Kind.{Kind}
-use Rattle.bench_net.specs.Statement.{Name, Statement, Gate}
-use Rattle.bench_net.specs.Scan.{names, signal, definition, gate_of}
-use Rattle.bench_net.specs.Circuit.{IsWellFormed}
-use Rattle.list_lemmas.proofs.Members.{among, contained}
-use Rattle.list_lemmas.proofs.Places.{place_within}
-use Rattle.bench_net.proofs.Public.{name_of-signal, read_named}
-use Rattle.fault_model.specs.declared.Line.TheVariants as line
-use Rattle.fault_model.specs.Fault.{Fault}
-use Rattle.fault_model.specs.Solution.{Test, Solves, Detects, under, value}
-use Rattle.fault_model.proofs.Public.{agree, defined_among, definition-signal, signal_apart}
-use Rattle.flat_circuit.specs.Readers.{Reads}
-use Rattle.block_sim.specs.Events.{bits_of}
-use Rattle.flat_circuit.specs.Regions.{IsReadBy}
-use Rattle.block_sim.specs.Flips.{DetectsFlip, HasCome, LanesLaw, Passes, complemented_at}
+use Rattle.flat_circuit.specs.{Readers.Reads, Regions.IsReadBy, BlockSpans.group_of}
 use Rattle.flat_circuit.specs.Words.{lane, lane_bits, word_over, pin_bits, test_of, AreWords}
-use Rattle.block_sim.proofs.EnteredGates.{free_pins, map_alike}
-use Rattle.block_sim.proofs.SignalEquations.{gate_named}
-use Rattle.block_sim.proofs.Outcomes.{first_of_told}
-use Rattle.flat_circuit.specs.BlockSpans.{group_of}
-use Rattle.block_sim.proofs.Regions.{step_law}
+use Rattle.bench_net.specs.{declared.Kind.Kind, Statement.{Name, Statement, Gate}}
+use Rattle.bench_net.specs.{Scan.{names, signal, definition, gate_of}, Circuit.IsWellFormed}
+use Rattle.bench_net.proofs.Public.{name_of-signal, read_named}
+use Rattle.list_lemmas.proofs.{Members.{among, contained}, Places.place_within}
+use Rattle.fault_model.specs.declared.Line.TheVariants as line
+use Rattle.fault_model.specs.{Fault.Fault, Solution.{Test, Solves, Detects, under, value}}
+use Rattle.fault_model.proofs.Public.{agree, defined_among, definition-signal, signal_apart}
+use Rattle.block_sim.{specs.Events.bits_of, proofs.EnteredGates.{free_pins, map_alike}}
+use Rattle.block_sim.specs.Flips.{DetectsFlip, HasCome, LanesLaw, Passes, complemented_at}
+use Rattle.block_sim.proofs.{SignalEquations.gate_named, Outcomes.first_of_told, Regions.step_law}
 
 both_are : (a b : Bool) → a ≡ true → b ≡ true → (a && b) ≡ true
 both_are true b p q = q
@@ -85,8 +74,7 @@ unlike_true false b e = e
 
 -- by any solution
 pub passes_is : (c : List Statement) (t : Test) (s : ℕ) (u : Name → Bool) (name : Name) (kind :
-    Kind)
-    (args : List Name) → IsWellFormed c → Solves c t None u → Contains c (Gate name kind args)
+    Kind) (args : List Name) → IsWellFormed c → Solves c t None u → Contains c (Gate name kind args)
     → Passes c t s (signal c name) ↔ (value kind (map (complemented_at c s u) args) ≢ u name)
 passes_is c t s u name kind args well p at = (
   λ h same. go h same,
@@ -142,8 +130,7 @@ module _ (c : List Statement) (well : IsWellFormed c) (tests : List Test) (group
     read_as k lt =
         let pair : (kind, pins) ≡ (h.reads.kind, map (signal c) h.reads.args) =
         ap (λ o. unwrap_or o (kind, pins)) (sym gate
-        ∙ gate_named c h.reads.name h.reads.kind h.reads.args g well h.reads.number
-        h.reads.gate) in
+        ∙ gate_named c h.reads.name h.reads.kind h.reads.args g well h.reads.number h.reads.gate) in
         valued k lt ∙ (ap (λ p. value p.0 (pin_bits None g p.1 good delta k)) pair
         ∙ ap (value h.reads.kind) (pins_plain c good delta g k 0 h.reads.args))
 
@@ -157,8 +144,7 @@ module _ (c : List Statement) (well : IsWellFormed c) (tests : List Test) (group
       where
         go : (x : Bool) → (signal c a == s) ≡ x
             → bits_of c good delta k a ≡ (if x then not (lane_bits c good k a) else lane_bits c good
-            k
-            a)
+            k a)
         go true is =
             let number : signal c a ≡ s = eqb-true (signal c a) s is in
             lane_xor (slice_index_or good (signal c a) 0) (slice_index_or delta (signal c a) 0) k
@@ -199,8 +185,7 @@ module _ (c : List Statement) (well : IsWellFormed c) (tests : List Test) (group
         (map_alike (bits_of c good delta k) (complemented_at c s (lane_bits c good k)) h.reads.args
         (λ a b. now_turned k a e)) in (
           λ p same. both.0 (subst (Passes c (test_of tests group k) s) (sym h.reads.number) p)
-              (sym is
-              ∙ (sym same ∙ good_of k)),
+              (sym is ∙ (sym same ∙ good_of k)),
           λ ne. subst (Passes c (test_of tests group k) s) h.reads.number
               (both.1 (λ same. ne (good_of k ∙ (sym same ∙ sym is)))),
         )
@@ -210,8 +195,7 @@ module _ (c : List Statement) (well : IsWellFormed c) (tests : List Test) (group
     unpassed k lt e =
         good_of k ∙ ((words k lt).gate h.reads.name h.reads.kind h.reads.args h.reads.gate
         ∙ (ap (value h.reads.kind) (free_pins None (lane_bits c good k) (signal c h.reads.name) 0
-        h.reads.args tt
-        ∙ map_alike (lane_bits c good k) (bits_of c good delta k) h.reads.args
+        h.reads.args tt ∙ map_alike (lane_bits c good k) (bits_of c good delta k) h.reads.args
         (λ a b. sym (unturned k a e))) ∙ sym (read_as k lt)))
 
     -- so a fault that has reached the signal has reached the gate

@@ -1,33 +1,27 @@
 -- The laws of fanout-free regions.
 use Rattle.std.proofs.Common.{◌≡◌, ℕ, refl, sym, ◌∙◌, ap, subst, Bool, true, false, not, List, inl}
-use Rattle.std.proofs.Common.{inr, ◌⊎◌}
+use Rattle.std.{proofs.Common.{inr, ◌⊎◌}, specs.List.enumerate_from}
 use Rattle.std.specs.Prelude.{◌≢◌, ◌↔◌, Contains, Some, None, map, option_map, unwrap_or}
-use Rattle.std.specs.List.{enumerate_from}
-use Rattle.bench_net.specs.declared.Sink.{Sink}
-use Rattle.bench_net.specs.declared.Sink.TheVariants as sink
-use Rattle.bench_net.specs.Statement.{Name, Statement, Gate}
+use Rattle.bench_net.specs.{declared.Sink.Sink, Statement.{Name, Statement, Gate}}
 use Rattle.bench_net.specs.Scan.{names, signal, name_of, cells, definition, observers, outputs}
-use Rattle.bench_net.specs.Circuit.{IsWellFormed}
+use Rattle.bench_net.{specs.Circuit.IsWellFormed, proofs.Public.{name_of-signal, signal-name_of}}
+use Rattle.bench_net.specs.declared.Sink.TheVariants as sink
 use Rattle.list_lemmas.proofs.Members.{Among, among, among_append, contained, mapped_from}
 use Rattle.list_lemmas.proofs.Places.{at_place, numbered_at}
-use Rattle.bench_net.proofs.Public.{name_of-signal, signal-name_of}
-use Rattle.fault_model.specs.declared.Line.{Line}
-use Rattle.fault_model.specs.declared.Line.TheVariants as line
-use Rattle.fault_model.specs.declared.Model.{Model}
+use Rattle.fault_model.specs.{declared.Line.Line, declared.Model.Model, Detection.{HasBit, name_on}}
 use Rattle.fault_model.specs.Fault.{Fault, branch, faults, same_line}
 use Rattle.fault_model.specs.Solution.{Test, Solves, Detects, value}
-use Rattle.fault_model.specs.Detection.{HasBit, name_on}
 use Rattle.fault_model.proofs.Public.{IsOn, defined_among, definition-signal, has_solutions}
 use Rattle.fault_model.proofs.Public.{listed_on, observes, same_lines, signal_apart, under_own}
+use Rattle.fault_model.specs.declared.Line.TheVariants as line
 use Rattle.flat_circuit.specs.Regions.{IsReadBy, RunsTo, here, onward}
+use Rattle.flat_circuit.proofs.Public.{data_observed, output_observed}
 use Rattle.block_sim.specs.Flips.{Alters, Arrives, there, over, DetectsFlip, FaultLaw, ObserverLaw}
 use Rattle.block_sim.specs.Flips.{Passes, RegionLaw, StemLaw, StepLaw, flip, start_of}
-use Rattle.block_sim.specs.Flips.{complemented_at}
+use Rattle.block_sim.{specs.Flips.complemented_at, proofs.Flips.{stem_stuck, stem_there, turned_of}}
 use Rattle.block_sim.proofs.EnteredGates.{Enters, IsFree, arg_named, gate_named, same_where}
-use Rattle.flat_circuit.proofs.Public.{data_observed, output_observed}
 use Rattle.block_sim.proofs.Flips.{altered, bit_is, entered_back, entered_there, gate_turned}
 use Rattle.block_sim.proofs.Flips.{not_back, not_itself, pin_enters, stem_back, stem_enters}
-use Rattle.block_sim.proofs.Flips.{stem_stuck, stem_there, turned_of}
 
 module _ (c : List Statement) (well : IsWellFormed c) (t : Test) (s g : ℕ)
     (h : IsReadBy c g s) where
@@ -86,8 +80,7 @@ module _ (c : List Statement) (well : IsWellFormed c) (t : Test) (s g : ℕ)
   step_back p d = (
     (p.bits read),
     (p.bits, read, p.solves, read_at, refl),
-    entered_back c well t (flip s (p.bits read)) e alters
-        (subst (DetectsFlip c t) (sym number) d),
+    entered_back c well t (flip s (p.bits read)) e alters (subst (DetectsFlip c t) (sym number) d),
   )
     where
       read_at : name_of c s ≡ Some read

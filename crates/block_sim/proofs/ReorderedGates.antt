@@ -2,20 +2,17 @@
 -- signals.
 use Rattle.std.proofs.Common.{◌≡◌, ℕ, refl, sym, ◌∙◌, ap, subst, List, map}
 use Rattle.std.specs.Prelude.{◌↔◌, Contains, Some, None}
-use Rattle.bench_net.specs.Statement.{Statement, Gate}
-use Rattle.bench_net.specs.Scan.{names, signal}
-use Rattle.bench_net.specs.Circuit.{IsWellFormed}
+use Rattle.bench_net.specs.{Statement.{Statement, Gate}, Scan.{names, signal}, Circuit.IsWellFormed}
 use Rattle.list_lemmas.proofs.Members.{among, contained, among_map}
 use Rattle.fault_model.specs.declared.Line.TheVariants as line
-use Rattle.fault_model.specs.Fault.{Fault}
-use Rattle.fault_model.specs.Solution.{Test, sees, under}
+use Rattle.fault_model.specs.{Fault.Fault, Solution.{Test, sees, under}}
 use Rattle.fault_model.specs.Reordered.{IsReordered, place, moved_fault, HasSameSignals}
 use Rattle.fault_model.proofs.Public.{same_signals, stands_back, defined_among, solved_same}
 use Rattle.fault_model.proofs.Public.{under_moved, same_bits, detected_same}
 use Rattle.block_sim.specs.ActiveGates.{IsActiveBy, HasActive, HasActiveIn}
 use Rattle.block_sim.specs.Flips.{flip, DetectsFlip, HasCome, TellsFirstFlips}
-use Rattle.flat_circuit.specs.Words.{test_of}
 use Rattle.block_sim.specs.Reordered.{HasSameActive, HasSameFlips}
+use Rattle.flat_circuit.specs.Words.{test_of}
 
 module _ (c d : List Statement) (well : IsWellFormed c) (is : IsReordered c d) where
   signals : HasSameSignals c d
@@ -53,14 +50,12 @@ module _ (c d : List Statement) (well : IsWellFormed c) (is : IsReordered c d) w
 
       seen : sees (Some (moved_fault c d f)) a.faulty (line.Pin gate a.pin) a.read
           ≡ sees (Some f) a.faulty (line.Pin (signal c a.name) a.pin) a.read
-      seen =
-          ap (λ g. under (Some (moved_fault c d f)) (line.Pin g a.pin) (a.faulty a.read)) number
+      seen = ap (λ g. under (Some (moved_fault c d f)) (line.Pin g a.pin) (a.faulty a.read)) number
           ∙ under_moved c d well is (Some f) (line.Pin (signal c a.name) a.pin) (a.faulty a.read)
 
   named_there : (gates : List ℕ) (gate g : ℕ) → gate ≡ place c d g → Contains gates g
       → Contains (map (place c d) gates) gate
-  named_there gates gate g e at =
-      subst (Contains (map (place c d) gates)) (sym e)
+  named_there gates gate g e at = subst (Contains (map (place c d) gates)) (sym e)
       (contained (map (place c d) gates) (place c d g)
       (among_map (place c d) gates g (among gates g at)))
 
@@ -121,13 +116,11 @@ module _ (c d : List Statement) (well : IsWellFormed c) (is : IsReordered c d) w
   detection tests group mask s word = (
     λ h. record {
       found = λ k lt on one. (detected (test_of tests group k) s).0 (h.found k lt on one);
-      clear = λ k lt on none x.
-          h.clear k lt on none ((detected (test_of tests group k) s).1 x);
+      clear = λ k lt on none x. h.clear k lt on none ((detected (test_of tests group k) s).1 x);
     },
     λ h. record {
       found = λ k lt on one. (detected (test_of tests group k) s).1 (h.found k lt on one);
-      clear = λ k lt on none x.
-          h.clear k lt on none ((detected (test_of tests group k) s).0 x);
+      clear = λ k lt on none x. h.clear k lt on none ((detected (test_of tests group k) s).0 x);
     },
   )
 

@@ -1,20 +1,14 @@
 -- Statements in another order: the same stems.
 use Rattle.std.proofs.Common.{◌≡◌, ◌+◌, ℕ, refl, sym, ◌∙◌, ap, subst, List}
 use Rattle.std.specs.Prelude.{◌↔◌, Contains, Option, Some, None, option_map, unwrap_or, slice_get}
-use Rattle.bench_net.specs.Statement.{Name, Statement}
-use Rattle.bench_net.specs.Scan.{names, signal}
-use Rattle.bench_net.specs.Circuit.{IsWellFormed}
-use Rattle.fault_model.specs.declared.Line.{Line}
-use Rattle.fault_model.specs.declared.Line.TheVariants as line
-use Rattle.fault_model.specs.declared.Model.{Model}
-use Rattle.fault_model.specs.Fault.{Fault, faults}
-use Rattle.fault_model.specs.Detection.{name_on}
+use Rattle.bench_net.specs.{Statement.{Name, Statement}, Scan.{names, signal}, Circuit.IsWellFormed}
+use Rattle.fault_model.specs.{declared.Line.Line, declared.Model.Model, Fault.{Fault, faults}}
+use Rattle.fault_model.{specs.Detection.name_on, proofs.Public.{same_signals, carries}}
 use Rattle.fault_model.specs.Reordered.{IsReordered, place, moved_line, HasSameSignals}
-use Rattle.fault_model.proofs.Public.{same_signals, carries}
+use Rattle.fault_model.specs.declared.Line.TheVariants as line
 use Rattle.flat_circuit.specs.Regions.{lone_reader, IsStem, IsStemOf, IsStemOfLine, LeadsTo, here}
-use Rattle.flat_circuit.specs.Regions.{onward, way_from}
+use Rattle.flat_circuit.{specs.Regions.{onward, way_from}, proofs.Public.same_readers}
 use Rattle.block_sim.specs.Reordered.{HasSameStems}
-use Rattle.flat_circuit.proofs.Public.{same_readers}
 
 module _ (c d : List Statement) (well : IsWellFormed c) (is : IsReordered c d) where
   signals : HasSameSignals c d
@@ -81,24 +75,18 @@ module _ (c d : List Statement) (well : IsWellFormed c) (is : IsReordered c d) w
   way_moved (line.Pin gate pin) n e at = refl
   way_moved (line.Data cell) n e at =
       ap (λ all. option_map (signal d) (option_map (λ (qd : Name × Name). qd.1)
-      (slice_get all cell))) is.same_cells
-      ∙ (ap (option_map (signal d)) e
+      (slice_get all cell))) is.same_cells ∙ (ap (option_map (signal d)) e
       ∙ (ap Some (signals.numbered n at)
       ∙ sym (ap (λ o. option_map (place c d) (option_map (signal c) o)) e)))
   way_moved (line.Out output) n e at =
       ap (λ all. option_map (signal d) (slice_get all output)) is.same_outputs
-      ∙ (ap (option_map (signal d)) e
-      ∙ (ap Some (signals.numbered n at)
+      ∙ (ap (option_map (signal d)) e ∙ (ap Some (signals.numbered n at)
       ∙ sym (ap (λ o. option_map (place c d) (option_map (signal c) o)) e)))
 
   of_line : (m : Model) (f : Fault) (r : ℕ) → Contains (faults m c) f
       → IsStemOfLine c r f.line ↔ IsStemOfLine d (place c d r) (moved_line c d f.line)
   of_line m f r listed = (
-    λ h. (
-      place c d h.0,
-      moves ∙ ap (option_map (place c d)) h.1,
-      (of_signal r h.0).0 h.2,
-    ),
+    λ h. (place c d h.0, moves ∙ ap (option_map (place c d)) h.1, (of_signal r h.0).0 h.2),
     λ h. from h.0 h.1 h.2 (way_from c f.line) refl,
   )
     where

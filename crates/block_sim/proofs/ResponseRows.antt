@@ -1,27 +1,20 @@
 -- The rows of responses, test by test, and the signals that are observed.
 use Rattle.std.proofs.Common.{◌≡◌, ◌<◌, ◌≤◌, ◌+◌, ◌*◌, ◌-◌, ◌∙◌, ℕ, Bool, List, [], ◌∷◌, ◌++◌}
 use Rattle.std.proofs.Common.{length, map, ap, refl, sym, subst, arith, inl, inr, ◌⊎◌, get_or}
-use Rattle.std.proofs.Common.{append_assoc}
+use Rattle.std.{proofs.Common.append_assoc, specs.List.enumerate_from, proofs.lemmas.Bool.cases_lt}
 use Rattle.std.specs.Prelude.{All, Some, None, flat_map, slice_get, slice_index_or}
-use Rattle.std.specs.List.{enumerate_from}
 use Rattle.std.proofs.lemmas.List.{length-append, length-map, map-append, get_or_append_left}
 use Rattle.std.proofs.lemmas.List.{get_or-append-add, get_or-map, same_lists}
-use Rattle.std.proofs.lemmas.List.Elements.{Contains-get_or}
+use Rattle.std.proofs.lemmas.List.{Elements.Contains-get_or, FromFn.map-range_with_len_more}
 use Rattle.std.proofs.lemmas.List.FromFn.{length-map-range_with_len, get_or-map-range_with_len}
-use Rattle.std.proofs.lemmas.List.FromFn.{map-range_with_len_more}
-use Rattle.std.proofs.lemmas.Bool.{cases_lt}
 use Rattle.std.proofs.lemmas.Option.{get_or_from_slice_get, slice_get-get_or}
-use Rattle.bench_net.specs.declared.Sink.{Sink}
-use Rattle.bench_net.specs.declared.Sink.TheVariants as sink
+use Rattle.bench_net.specs.{declared.Sink.Sink, Scan.{names, signal, observers, outputs, cells}}
 use Rattle.bench_net.specs.Statement.{Name, Statement, Input, Output, Gate, Dff, read}
-use Rattle.bench_net.specs.Scan.{names, signal, observers, outputs, cells}
 use Rattle.bench_net.specs.Circuit.{IsCircuit, IsWellFormed, sink_count}
 use Rattle.bench_net.proofs.Public.{name_of-signal}
-use Rattle.list_lemmas.proofs.Members.{Among, among}
-use Rattle.list_lemmas.proofs.Members.{mapped_from}
-use Rattle.list_lemmas.proofs.Places.{place_within}
-use Rattle.fault_model.specs.Solution.{Test, Solves, shows}
-use Rattle.fault_model.proofs.Public.{agree}
+use Rattle.bench_net.specs.declared.Sink.TheVariants as sink
+use Rattle.list_lemmas.proofs.{Members.{Among, among, mapped_from}, Places.place_within}
+use Rattle.fault_model.{specs.Solution.{Test, Solves, shows}, proofs.Public.agree}
 use Rattle.patterns.specs.Least.{below}
 use Rattle.block_sim.specs.Responses.{lane_row}
 use Rattle.flat_circuit.specs.Words.{AreWords, lane, lane_bits, test_of}
@@ -46,8 +39,7 @@ cells_numbered c from (qd ∷ qds) = ap (λ xs. signal c qd.1 ∷ xs) (cells_num
 pub observed_are : (c : List Statement)
     → map (λ (o : Sink × Name). signal c o.1) (observers c) ≡ map (signal c) (outputs c)
     ++ map (λ (qd : Name × Name). signal c qd.1) (cells c)
-observed_are c =
-    map-append (λ (o : Sink × Name). signal c o.1)
+observed_are c = map-append (λ (o : Sink × Name). signal c o.1)
     (map (λ at. (sink.Out at.0, at.1)) (enumerate_from 0 (outputs c)))
     (map (λ at. (sink.Data at.0, at.1.1)) (enumerate_from 0 (cells c)))
     ∙ (ap (λ xs. xs ++ map (λ (o : Sink × Name). signal c o.1)
@@ -117,10 +109,8 @@ pub lane_row_is : (observed words : List ℕ) (row : List Bool) (k : ℕ) → le
     → ((i : ℕ) (d : Bool) → i < length observed
     → get_or row i d ≡ lane (slice_index_or words (get_or observed i 0) 0) k)
     → row ≡ lane_row observed words k
-lane_row_is observed words row k long each =
-    same_lists row (lane_row observed words k) (long
-    ∙ sym (length-map observed (λ s. lane (slice_index_or words s 0) k)))
-    (λ i d lt.
+lane_row_is observed words row k long each = same_lists row (lane_row observed words k) (long
+    ∙ sym (length-map observed (λ s. lane (slice_index_or words s 0) k))) (λ i d lt.
     let within : i < length observed = omega (arith, lt, long) in
     each i d within ∙ sym (get_or-map (λ s. lane (slice_index_or words s 0) k) observed i 0 d
     within))
@@ -153,8 +143,7 @@ row_shows c tests group k words observed test v well are lt is at solves =
     let own : test_of tests group k ≡ test =
     get_or_from_slice_get tests (128 * group + k) test [] at in
     let solved = subst (λ t. Solves c t None (lane_bits c words k)) own (are k lt) in
-    ap (λ xs. lane_row xs words k) is
-    ∙ same_row (observers c) (λ (o : Sink × Name). signal c o.1)
+    ap (λ xs. lane_row xs words k) is ∙ same_row (observers c) (λ (o : Sink × Name). signal c o.1)
     (λ s. lane (slice_index_or words s 0) k) (shows None v)
     (λ o a. agree c test None (lane_bits c words k) v well solved solves o.1
     (observed_named c o well a))
@@ -192,8 +181,7 @@ group_more c tests group n m size rows more words observed well are is starts fe
         whole row e = slice_get-get_or more t [] (omega (arith, counted, lt)) ∙ ap Some e
 
         go : (t < n) ⊎ (n ≤ t) → slice_get more t ≡ Some (map (shows None v) (observers c))
-        go (inl low) =
-            whole (map (shows None v) (observers c)) (ap (λ rs. get_or rs t []) same
+        go (inl low) = whole (map (shows None v) (observers c)) (ap (λ rs. get_or rs t []) same
             ∙ (get_or_append_left rows (map (lane_row observed words) (below size)) [] t
             (omega (arith, before.count, low))
             ∙ get_or_from_slice_get rows t (map (shows None v) (observers c)) []
@@ -209,8 +197,7 @@ group_more c tests group n m size rows more words observed well are is starts fe
             (sym place)
             ∙ (get_or-append-add rows (map (lane_row observed words) (below size)) (t - n) []
             ∙ (get_or-map-range_with_len (lane_row observed words) 0 size (t - n) (t - n) [] small
-            (omega arith)
-            ∙ row_shows c tests group (t - n) words observed test v well are (omega (
+            (omega arith) ∙ row_shows c tests group (t - n) words observed test v well are (omega (
               arith,
               small,
               few,

@@ -1,22 +1,18 @@
 -- A pass over the readers of a signal, after which they wait.
-use Rattle.std.proofs.Common.{◌≡◌, ◌≢◌, ◌<◌, ◌≤◌, ℕ, ◌+◌, refl, sym, ◌∙◌, ap, subst}
-use Rattle.std.proofs.Common.{List, length, set, arith, inl, inr, ◌⊎◌}
+use Rattle.std.proofs.Common.{◌≡◌, ◌≢◌, ◌<◌, ◌≤◌, ℕ, ◌+◌, refl, sym, ◌∙◌, ap, subst, List, length}
+use Rattle.std.proofs.{Common.{set, arith, inl, inr, ◌⊎◌}, lemmas.Bool.cases_eq}
 use Rattle.std.specs.Prelude.{Some, slice_get, slice_index_or}
 use Rattle.std.proofs.lemmas.List.{get_or-set_same, get_or-set_other}
-use Rattle.std.proofs.lemmas.Bool.{cases_eq}
 use Rattle.bench_net.specs.Statement.{Statement}
-use Rattle.list_lemmas.proofs.Members.{among}
-use Rattle.list_lemmas.proofs.Places.{placed, place_within}
-use Rattle.flat_circuit.specs.Readers.{Reads, IsLive}
-use Rattle.block_sim.specs.Events.{AreScheduled}
-use Rattle.flat_circuit.specs.Flat.{AreReaders}
+use Rattle.list_lemmas.proofs.{Members.among, Places.{placed, place_within}}
+use Rattle.flat_circuit.specs.{Readers.{Reads, IsLive}, Flat.AreReaders}
 use Rattle.flat_circuit.proofs.Public.{index_of, at_end}
+use Rattle.block_sim.specs.Events.{AreScheduled}
 
 -- the first readers wait, and no others have begun to wait
 pub record HasScheduled (c : List Statement) (s : ℕ) (items : List ℕ) (i : ℕ)
     (before at : List ℕ) : Type 0 where
-  pub readers : (j gate : ℕ) → j < i → slice_get items j ≡ Some gate
-      → slice_index_or at gate 0 ≢ 0
+  pub readers : (j gate : ℕ) → j < i → slice_get items j ≡ Some gate → slice_index_or at gate 0 ≢ 0
   pub only : (r : ℕ) → (slice_index_or at r 0 ≡ slice_index_or before r 0)
       ⊎ ((Reads c r s × IsLive c r) × (slice_index_or at r 0 ≢ 0))
 

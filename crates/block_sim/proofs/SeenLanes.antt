@@ -1,15 +1,13 @@
 -- The lanes that are seen, as signals change and as fewer lanes are followed.
 use Rattle.std.proofs.Common.{◌≡◌, ◌≢◌, ◌<◌, ℕ, refl, sym, ◌∙◌, ap, subst, Bool, true, false, ◌||◌}
-use Rattle.std.proofs.Common.{List, length, set, inl, inr, ◌⊎◌}
+use Rattle.std.{proofs.Common.{List, length, set, inl, inr, ◌⊎◌}, specs.Bool.Decides}
 use Rattle.std.specs.Prelude.{slice_index_or, bit_or}
-use Rattle.std.specs.Bool.{Decides}
 use Rattle.std.proofs.lemmas.List.{get_or-set_same, get_or-set_other}
 use Rattle.std.proofs.lemmas.Bool.{cases_eq, false≢true, or_left, or_right, or_cases}
 use Rattle.bench_net.specs.Statement.{Statement}
-use Rattle.flat_circuit.specs.Words.{lane}
-use Rattle.flat_circuit.specs.Readers.{IsObserved}
-use Rattle.block_sim.specs.Propagation.{AreSeen}
+use Rattle.flat_circuit.specs.{Words.lane, Readers.IsObserved}
 use Rattle.flat_circuit.proofs.Public.{lane_or, lane_zero}
+use Rattle.block_sim.specs.Propagation.{AreSeen}
 
 none_in_zero : (d k : ℕ) → d ≡ 0 → lane d k ≡ true → ⊥
 none_in_zero d k e h = false≢true (sym (lane_zero k) ∙ (ap (λ x. lane x k) (sym e) ∙ h))
@@ -45,8 +43,7 @@ seen_changed c delta mask seen g diff shown clear within is h = record {
         let s = h.found k lt e in (
           s.0,
           s.1,
-          ap (λ d. lane d k)
-              (kept s.0 (λ same. none_in_zero (slice_index_or delta s.0 0) k
+          ap (λ d. lane d k) (kept s.0 (λ same. none_in_zero (slice_index_or delta s.0 0) k
               (ap (λ x. slice_index_or delta x 0) same ∙ clear) s.2)) ∙ s.2,
         )
     found k lt (inr e) = let d = (is k lt).0 e in (g, d.0, ap (λ x. lane x k) at ∙ d.1)

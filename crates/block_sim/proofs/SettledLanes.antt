@@ -4,15 +4,12 @@ use Rattle.std.proofs.Common.{false, ◌&&◌, ◌||◌, List, inl, inr, ◌⊎�
 use Rattle.std.specs.Prelude.{Contains, Some, bit_and, bit_or, nat_lt, slice_get, unwrap_or}
 use Rattle.std.specs.Int.{w128, trailing_zeros}
 use Rattle.std.proofs.lemmas.Bool.{false≢true, and_from, or_cases, or_left}
-use Rattle.list_lemmas.proofs.Members.{contained}
-use Rattle.list_lemmas.proofs.Places.{at_place}
-use Rattle.block_sim.specs.declared.propagation.Extent.{Extent}
-use Rattle.block_sim.specs.declared.propagation.Extent.TheVariants.{WholeBlock, FirstHits}
+use Rattle.list_lemmas.proofs.{Members.contained, Places.at_place}
+use Rattle.block_sim.specs.declared.propagation.Extent.{Extent, TheVariants.{WholeBlock, FirstHits}}
 use Rattle.block_sim.specs.Propagation.{IsSettled, LeavesSettled}
-use Rattle.flat_circuit.specs.Words.{lane}
 use Rattle.block_sim.specs.declared.propagation.Followed.{Followed}
+use Rattle.flat_circuit.{specs.Words.lane, proofs.Public.only_lanes}
 use Rattle.flat_circuit.proofs.Public.{lane_and, lane_or, at_end, left_behind, left_of, left_out}
-use Rattle.flat_circuit.proofs.Public.{only_lanes}
 
 -- a settled lane stays settled as more lanes are seen
 pub settled_more : (extent : Extent) (seen more k : ℕ) → IsSettled extent seen k
@@ -26,8 +23,7 @@ settled_more (FirstHits followed) seen more k h = λ one at own.
 pub settled_on : (extent : Extent) (lanes kept narrow seen more : ℕ)
     → LeavesSettled extent lanes kept seen
     → ((k : ℕ) → k < 128 → lane kept k ≡ true → lane narrow k ≡ false
-    → IsSettled extent (bit_or seen more) k)
-    → LeavesSettled extent lanes narrow (bit_or seen more)
+    → IsSettled extent (bit_or seen more) k) → LeavesSettled extent lanes narrow (bit_or seen more)
 settled_on extent lanes kept narrow seen more before out k lt in_lanes left = go (lane kept k) refl
   where
     go : (b : Bool) → lane kept k ≡ b → IsSettled extent (bit_or seen more) k
@@ -93,8 +89,7 @@ module _ (followed : List Followed) (i : ℕ) (one : Followed) (at : slice_get f
 
     pub one_open : (k : ℕ) → k < 128 → SomeOpen below k
         → SomeOpen (bit_or below (bit_and one.lanes low)) k
-    one_open k lt before e =
-        go (or_cases (lane below k) (lane (bit_and one.lanes low) k)
+    one_open k lt before e = go (or_cases (lane below k) (lane (bit_and one.lanes low) k)
         (sym (lane_or below (bit_and one.lanes low) k) ∙ e))
       where
         go : (lane below k ≡ true) ⊎ (lane (bit_and one.lanes low) k ≡ true)
@@ -124,8 +119,7 @@ module _ (followed : List Followed) (i : ℕ) (one : Followed) (at : slice_get f
 -- ---- the lanes that both words have
 pub out_of : (lanes low k : ℕ) → lane lanes k ≡ true → lane (bit_and lanes low) k ≡ false
     → lane low k ≡ false
-out_of lanes low k own out = seen_not (lane low k)
-    (λ e. false≢true (sym out ∙ (lane_and lanes low k
+out_of lanes low k own out = seen_not (lane low k) (λ e. false≢true (sym out ∙ (lane_and lanes low k
     ∙ and_from (lane lanes k) (lane low k) own e)))
 
 pub and_none : (a b : Bool) → (b ≡ true → ⊥) → (a && b) ≡ false

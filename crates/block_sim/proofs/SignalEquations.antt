@@ -1,26 +1,21 @@
 -- The equations of signals one by one: all of them make a solution, and a change of one word keeps
 -- the equations of signals that do not read it.
 use Rattle.std.proofs.Common.{◌≡◌, ◌≢◌, ◌<◌, ℕ, ◌+◌, refl, sym, ◌∙◌, ap, subst, Bool, false, List}
-use Rattle.std.proofs.Common.{[], ◌∷◌, length, set}
+use Rattle.std.{proofs.Common.{[], ◌∷◌, length, set}, specs.List.enumerate_from}
 use Rattle.std.specs.Prelude.{Contains, Option, Some, None, map, slice_index_or, unwrap_or, bit_xor}
-use Rattle.std.specs.List.{enumerate_from}
 use Rattle.std.proofs.lemmas.List.{get_or-set_other}
-use Rattle.bench_net.specs.declared.Kind.{Kind}
+use Rattle.bench_net.specs.{declared.Kind.Kind, Circuit.IsWellFormed}
 use Rattle.bench_net.specs.Statement.{Name, Statement, Input, Output, Gate, Dff}
 use Rattle.bench_net.specs.Scan.{names, signal, definition, gate_of, gate_line, sources}
-use Rattle.bench_net.specs.Circuit.{IsWellFormed}
-use Rattle.list_lemmas.proofs.Members.{Among, among, contained}
 use Rattle.bench_net.proofs.Public.{name_of-signal}
-use Rattle.list_lemmas.proofs.Places.{at_place, place_within}
+use Rattle.list_lemmas.proofs.{Members.{Among, among, contained}, Places.{at_place, place_within}}
 use Rattle.fault_model.specs.declared.Line.TheVariants as line
-use Rattle.fault_model.specs.Fault.{Fault}
-use Rattle.fault_model.specs.Solution.{Test, Solves, under, value, sees, pins_see}
+use Rattle.fault_model.specs.{Fault.Fault, Solution.{Test, Solves, under, value, sees, pins_see}}
 use Rattle.fault_model.proofs.Public.{pins_agree, under_other, IsSource, definition-signal}
 use Rattle.fault_model.proofs.Public.{defined_among, source_definition, source_named}
-use Rattle.flat_circuit.specs.Words.{lane, word_over, pin_bits}
-use Rattle.flat_circuit.specs.Readers.{Reads}
-use Rattle.block_sim.specs.Events.{bits_of, HasEquation, IsElsewhere}
+use Rattle.flat_circuit.specs.{Words.{lane, word_over, pin_bits}, Readers.Reads}
 use Rattle.flat_circuit.proofs.Public.{nothing}
+use Rattle.block_sim.specs.Events.{bits_of, HasEquation, IsElsewhere}
 
 module _ (c : List Statement) (t : Test) (f : Option Fault) (v : Name → Bool) where
   pub each_equation : Solves c t f v → (s : ℕ) → HasEquation c t f v s
@@ -52,8 +47,7 @@ module _ (c : List Statement) (t : Test) (f : Option Fault) (v : Name → Bool) 
       → HasEquation c t f v s → HasEquation c t f w s
   equation_same w s same read e = record {
     source = λ i n number at. sym (same n number) ∙ e.source i n number at;
-    gate = λ n kind args number at.
-        sym (same n number) ∙ (e.gate n kind args number at
+    gate = λ n kind args number at. sym (same n number) ∙ (e.gate n kind args number at
         ∙ ap (λ bits. under f (line.Stem s) (value kind bits))
         (pins_agree f v w s 0 args (λ a h. read n a kind args number at (contained args a h))));
   }
@@ -85,14 +79,12 @@ word_other good delta g diff s k ne = ap (λ d. lane (bit_xor (slice_index_or go
 
 -- a change of a word keeps the equations of other signals that do not read it
 pub equation_kept : (c : List Statement) (t : Test) (f : Option Fault) (good delta : List ℕ)
-    (g diff s k : ℕ) → s ≢ g → (Reads c s g → ⊥)
-    → HasEquation c t f (bits_of c good delta k) s
+    (g diff s k : ℕ) → s ≢ g → (Reads c s g → ⊥) → HasEquation c t f (bits_of c good delta k) s
     → HasEquation c t f (bits_of c good (set delta g diff) k) s
 equation_kept c t f good delta g diff s k ne off =
     equation_same c t f (bits_of c good delta k) (bits_of c good (set delta g diff) k) s
     (λ n number. word_other good delta g diff (signal c n) k (λ e. ne (sym number ∙ e)))
-    (λ n a kind args number at h. word_other good delta g diff (signal c a) k
-    (λ e. off (record {
+    (λ n a kind args number at h. word_other good delta g diff (signal c a) k (λ e. off (record {
       name = n;
       kind = kind;
       args = args;
@@ -106,14 +98,12 @@ equation_kept c t f good delta g diff s k ne off =
 pub gate_named : (c : List Statement) (n : Name) (kind : Kind) (args : List Name) (g : ℕ)
     → IsWellFormed c → signal c n ≡ g → Contains c (Gate n kind args)
     → gate_of c g ≡ Some (kind, map (signal c) args)
-gate_named c n kind args g well number at =
-    ap (λ k. gate_of c k) (sym number)
+gate_named c n kind args g well number at = ap (λ k. gate_of c k) (sym number)
     ∙ ap (gate_line c) (definition-signal c (Gate n kind args) n well at refl)
 
 -- the bits of the signals that pins read are the bits that the pins see
 pins_named : (c : List Statement) (f : Option Fault) (good delta : List ℕ) (s k from : ℕ)
-    (args : List Name)
-    → map (λ at. under f (line.Pin s at.0) (lane (word_over good delta at.1) k))
+    (args : List Name) → map (λ at. under f (line.Pin s at.0) (lane (word_over good delta at.1) k))
     (enumerate_from from (map (signal c) args))
     ≡ map (λ at. sees f (bits_of c good delta k) (line.Pin s at.0) at.1) (enumerate_from from args)
 pins_named c f good delta s k from [] = refl
@@ -134,10 +124,8 @@ equation_of c t f good delta after g k kind pins well loop is others valued = re
       (no_source n number (source_definition c n well (at_place (sources c) i n at)));
   gate = λ n other args number at.
       let pair : (kind, pins) ≡ (other, map (signal c) args) =
-      ap (λ o. unwrap_or o (kind, pins)) (sym is
-      ∙ gate_named c n other args g well number at) in
-      ap (λ x. lane (word_over good after x) k) number
-      ∙ (valued ∙ ap (under f (line.Stem g))
+      ap (λ o. unwrap_or o (kind, pins)) (sym is ∙ gate_named c n other args g well number at) in
+      ap (λ x. lane (word_over good after x) k) number ∙ (valued ∙ ap (under f (line.Stem g))
       (ap (λ p. value p.0 (pin_bits f g p.1 good delta k)) pair
       ∙ (ap (value other) (pins_named c f good delta g k 0 args)
       ∙ ap (value other) (pins_agree f (bits_of c good delta k) (bits_of c good after k) g 0 args

@@ -1,22 +1,16 @@
 -- Below the level every signal has its true bit.
 use Rattle.std.proofs.Common.{◌≡◌, ◌≢◌, ◌<◌, ◌≤◌, ℕ, zero, suc, refl, sym, ◌∙◌, ap, Bool, true}
-use Rattle.std.proofs.Common.{List, arith, inl, inr, ◌⊎◌}
+use Rattle.std.proofs.{Common.{List, arith, inl, inr, ◌⊎◌}, lemmas.Bool.cases_eq}
 use Rattle.std.specs.Prelude.{Some, slice_index_or, map}
-use Rattle.std.proofs.lemmas.Bool.{cases_eq}
-use Rattle.bench_net.specs.Statement.{Name, Statement, Gate}
-use Rattle.bench_net.specs.Scan.{names, signal, sources, inputs, cells}
-use Rattle.bench_net.specs.Circuit.{IsWellFormed}
+use Rattle.bench_net.specs.{Statement.{Name, Statement, Gate}, Circuit.IsWellFormed}
+use Rattle.bench_net.{specs.Scan.{names, signal, sources, inputs, cells}, proofs.Public.read_named}
 use Rattle.list_lemmas.proofs.Members.{Among, among, contained, among_left, among_right}
 use Rattle.list_lemmas.proofs.Places.{placed}
-use Rattle.bench_net.proofs.Public.{read_named}
 use Rattle.fault_model.specs.declared.Line.TheVariants as line
-use Rattle.fault_model.specs.Fault.{Fault}
-use Rattle.fault_model.specs.Solution.{Test, Solves, under, value}
+use Rattle.fault_model.specs.{Fault.Fault, Solution.{Test, Solves, under, value}}
 use Rattle.fault_model.proofs.Public.{Driven, driven, pins_agree}
-use Rattle.flat_circuit.specs.Words.{lane, test_of}
-use Rattle.flat_circuit.specs.Readers.{Reads}
-use Rattle.block_sim.specs.Events.{bits_of, HasEquation}
-use Rattle.block_sim.specs.Propagation.{IsBalanced}
+use Rattle.flat_circuit.specs.{Words.{lane, test_of}, Readers.Reads}
+use Rattle.block_sim.specs.{Events.{bits_of, HasEquation}, Propagation.IsBalanced}
 
 module _ (c : List Statement) (counts : ℕ → Type 0) (closed : (g s : ℕ) → Reads c g s → counts g
     → counts s) (tests : List Test) (group : ℕ) (f : ℕ → Fault) (good : List ℕ) (mask : ℕ)
@@ -64,8 +58,7 @@ module _ (c : List Statement) (counts : ℕ → Type 0) (closed : (g s : ℕ) �
               number = refl;
               reads = contained x.1 m h;
               of = refl;
-            })
-            (among (names c) m (read_named c (Gate n x.0 x.1) m well x.2 h))))
+            }) (among (names c) m (read_named c (Gate n x.0 x.1) m well x.2 h))))
             ∙ sym (solves.gate n x.0 x.1 gate))
 
     below_bound : (bound : ℕ) (n : Name) → Among n (names c) → counts (signal c n)

@@ -1,31 +1,21 @@
 -- Every class has a true outcome on every block, and no second one.
 use Rattle.std.proofs.Common.{◌≡◌, ◌≢◌, ◌⊎◌, ◌<◌, ◌≤◌, ◌+◌, ◌*◌, inl, inr, ℕ, zero, suc, Bool, true}
 use Rattle.std.proofs.Common.{false, List, [], ◌∷◌, length, get_or, Option, Some, None, refl, sym}
-use Rattle.std.proofs.Common.{ap, ◌∙◌, subst, arith}
-use Rattle.std.specs.Bool.{Decides}
+use Rattle.std.{proofs.Common.{ap, ◌∙◌, subst, arith}, specs.Bool.Decides}
 use Rattle.std.specs.Prelude.{slice_get, Contains, unwrap_or, is_none}
 use Rattle.std.proofs.lemmas.Bool.{cases_lt}
-use Rattle.bench_net.specs.declared.Sink.{Sink}
-use Rattle.bench_net.specs.Statement.{Name, Statement}
+use Rattle.bench_net.specs.{declared.Sink.Sink, Statement.{Name, Statement}, Circuit.IsWellFormed}
 use Rattle.bench_net.specs.Scan.{names, observers}
-use Rattle.bench_net.specs.Circuit.{IsWellFormed}
-use Rattle.list_lemmas.proofs.Members.{contained, filtered_from}
-use Rattle.list_lemmas.proofs.Places.{at_place, within_place}
-use Rattle.fault_model.specs.declared.Line.{Line}
-use Rattle.fault_model.specs.declared.Model.{Model}
+use Rattle.list_lemmas.proofs.{Members.{contained, filtered_from}, Places.{at_place, within_place}}
+use Rattle.fault_model.specs.{declared.Line.Line, declared.Model.Model, Fault.{Fault, faults}}
 use Rattle.fault_model.specs.declared.Model.TheVariants.{StuckAt, Transition, TransitionPairs}
-use Rattle.fault_model.specs.Fault.{Fault, faults}
-use Rattle.fault_model.specs.Solution.{Test, Solves, Detects, shows}
+use Rattle.fault_model.specs.{Solution.{Test, Solves, Detects, shows}, Detection.DetectsAt}
 use Rattle.fault_model.specs.Collapse.{next, representatives}
 use Rattle.fault_model.specs.Detection.{name_on, HasBit, IsInitialized, IsSecondOfPair, LooksBack}
-use Rattle.fault_model.specs.Detection.{DetectsAt}
 use Rattle.fault_model.proofs.Public.{carries, has_solutions, detection_is_of_any_solution, agree}
-use Rattle.patterns.specs.declared.Outcome.{Outcome}
-use Rattle.patterns.specs.declared.Outcome.TheVariants.{Clear, Hit}
-use Rattle.patterns.specs.Tests.{size_of}
-use Rattle.patterns.specs.Least.{Table}
-use Rattle.block_sim.specs.First.{IsOutcome, IsTrueOutcome, IsTrueTable}
-use Rattle.block_sim.proofs.Pairs.{second_or}
+use Rattle.patterns.specs.declared.Outcome.{Outcome, TheVariants.{Clear, Hit}}
+use Rattle.patterns.specs.{Tests.size_of, Least.Table}
+use Rattle.block_sim.{specs.First.{IsOutcome, IsTrueOutcome, IsTrueTable}, proofs.Pairs.second_or}
 
 abbrev Or : Type 0 → Type 0
 Or P = P ⊎ (P → ⊥)
@@ -157,8 +147,7 @@ module _ (c : List Statement) (tests : List Test) (well : IsWellFormed c) where
               not (subst (λ j. DetectsAt c tests f (64 * b + j)) q d)
 
       go : Or (DetectsAt c tests f (64 * b + k)) → ((DetectsAt c tests f (64 * b + k) → ⊥)
-          → (o : Outcome) × IsOutcome c tests f b o)
-          → (o : Outcome) × IsOutcome c tests f b o
+          → (o : Outcome) × IsOutcome c tests f b o) → (o : Outcome) × IsOutcome c tests f b o
       go (inl d) later = (Hit k, (omega (arith, e), d, none))
       go (inr not) later = later not
 

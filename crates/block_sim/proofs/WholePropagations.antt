@@ -1,29 +1,21 @@
 -- An event-driven simulation from the first change of a fault to its end.
-use Rattle.std.proofs.Common.{◌≡◌, ◌≢◌, ◌<◌, ◌≤◌, ℕ, ◌+◌, true, false, List, length, set}
-use Rattle.std.proofs.Common.{arith}
-use Rattle.std.specs.Prelude.{◌==◌, count_by, slice_index_or}
-use Rattle.std.specs.Bool.{Decides}
-use Rattle.bench_net.specs.Statement.{Statement}
-use Rattle.bench_net.specs.Scan.{names}
-use Rattle.bench_net.specs.Circuit.{IsWellFormed}
-use Rattle.fault_model.specs.Fault.{Fault}
-use Rattle.fault_model.specs.Solution.{Test}
+use Rattle.std.proofs.Common.{◌≡◌, ◌≢◌, ◌<◌, ◌≤◌, ℕ, ◌+◌, true, false, List, length, set, arith}
+use Rattle.std.specs.{Prelude.{◌==◌, count_by, slice_index_or}, Bool.Decides}
+use Rattle.bench_net.specs.{Statement.Statement, Scan.names, Circuit.IsWellFormed}
+use Rattle.fault_model.specs.{Fault.Fault, Solution.Test}
 use Rattle.block_sim.specs.declared.propagation_state.PropagationState.{PropagationState}
-use Rattle.block_sim.specs.ActiveGates.{AreInGroup, HasActiveIn}
+use Rattle.block_sim.specs.{ActiveGates.{AreInGroup, HasActiveIn}, Events.AreScheduled}
 use Rattle.block_sim.specs.PropagationState.{HasRoomFor, IsClear}
-use Rattle.flat_circuit.specs.Readers.{IsObserved, IsRising}
-use Rattle.block_sim.specs.Events.{AreScheduled}
 use Rattle.block_sim.specs.Moments.{Case, Leads, Spreads, moment}
 use Rattle.block_sim.specs.Propagation.{AreShown, IsFirstChange, IsPropagating}
-use Rattle.flat_circuit.specs.Words.{lane}
 use Rattle.block_sim.proofs.EndOfPropagation.{active_touched, shown_from}
 use Rattle.block_sim.proofs.Moments.{case_of, first_left, first_seen, first_spreads}
+use Rattle.flat_circuit.specs.{Readers.{IsObserved, IsRising}, Words.lane}
 
 -- no gate waits any more, the seen lanes are shown, and the evaluated gates were active
 pub record HasEnded (c : List Statement) (tests : List Test) (group : ℕ) (f : ℕ → Fault)
     (good : List ℕ) (lanes : ℕ) (before now : PropagationState) (start seen : ℕ) (settled : ℕ
-    → Type 0) :
-    Type 0 where
+    → Type 0) : Type 0 where
   pub idle : (s : ℕ) → slice_index_or now.waiting s 0 ≡ 0
   pub shown : AreShown c tests group f good lanes settled seen
   pub counted : (gates : List ℕ) → AreInGroup tests group lanes
@@ -32,8 +24,7 @@ pub record HasEnded (c : List Statement) (tests : List Test) (group : ℕ) (f : 
 
 module _ (c : List Statement) (good : List ℕ) (lanes : ℕ) (before after : PropagationState)
     (start diff kept seen : ℕ) (well : IsWellFormed c) (rising : IsRising c)
-    (room : HasRoomFor c before)
-    (clear : IsClear before) (within : start < length (names c))
+    (room : HasRoomFor c before) (clear : IsClear before) (within : start < length (names c))
     (changed : after.overlay ≡ set before.overlay start diff)
     (scheduled : AreScheduled c start before.waiting after.waiting)
     (differs : diff ≢ 0) (a_lane : (k : ℕ) × (k < 128) × (lane diff k ≡ true))

@@ -225,10 +225,10 @@ impl Job {
         Job::with_lists(alloc, flat, lists, tests, rows)
     }
 
-    /// Makes the job of a circuit under a model, with tests of its width and any number of pieces, in
-    /// at most as many threads as there are workers. If the circuit is large, one thread makes its
-    /// flat arrays and another its fault list and classes. Then the threads share the words of its
-    /// blocks. It fails only for memory.
+    /// Makes the job of a circuit under a model, with tests of its width and any number of pieces,
+    /// in at most as many threads as there are workers. If the circuit is large, one thread makes
+    /// its flat arrays and another its fault list and classes. Then the threads share the words of
+    /// its blocks. It fails only for memory.
     pub fn under_model<R: Threads + Wait>(
         rt: &R,
         alloc: Global,
@@ -350,9 +350,9 @@ impl Job {
         Ok(())
     }
 
-    /// Takes other tests as [`Job::set_tests_of_any_size`] does, in at most as many threads as there
-    /// are workers, which share the words of their blocks. The words take the memory of spare words,
-    /// as far as these are of as many signals.
+    /// Takes other tests as [`Job::set_tests_of_any_size`] does, in at most as many threads as
+    /// there are workers, which share the words of their blocks. The words take the memory of spare
+    /// words, as far as these are of as many signals.
     pub fn set_tests_over<R: Threads + Wait>(
         &mut self,
         rt: &R,

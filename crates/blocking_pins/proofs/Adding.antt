@@ -1,12 +1,10 @@
 -- What is added to the numbers of the pins, one after the other.
-use Rattle.std.proofs.Common.{◌≡◌, ◌≢◌, ◌<◌, ◌≤◌, ◌+◌, ◌-◌, ◌^◌, ◌∙◌, ℕ, refl, sym, ap, subst}
-use Rattle.std.proofs.Common.{true, List, length, arith, inl, inr, ◌⊎◌}
+use Rattle.std.proofs.Common.{◌≡◌, ◌≢◌, ◌<◌, ◌≤◌, ◌+◌, ◌-◌, ◌^◌, ◌∙◌, ℕ, refl, sym, ap, subst, true}
+use Rattle.std.{proofs.Common.{List, length, arith, inl, inr, ◌⊎◌}, specs.Bool.Decides}
 use Rattle.std.specs.Prelude.{Some, min, slice_get, slice_index_or}
-use Rattle.std.specs.Bool.{Decides}
 use Rattle.flat_circuit.specs.Words.{lane}
 use Rattle.list_lemmas.proofs.Places.{place_within, within_place}
-use Rattle.blocking_pins.specs.declared.tally.PinCount.{PinCount}
-use Rattle.blocking_pins.specs.Counting.{AreAdded, IsMarked}
+use Rattle.blocking_pins.specs.{declared.tally.PinCount.PinCount, Counting.{AreAdded, IsMarked}}
 use Rattle.blocking_pins.specs.Counting.IsMarked.{unblocked, again, first}
 
 -- the last fault of a pin that was counted
@@ -72,8 +70,7 @@ added_none number B counts row none = record {
 
 -- one relation after the other
 pub added_more : (number : ℕ) (A B C : ℕ → ℕ → Type 0) (counts mid after : List PinCount)
-    (row between now : List ℕ)
-    → ((i k : ℕ) → k < 128 → C i k → A i k ⊎ B i k)
+    (row between now : List ℕ) → ((i k : ℕ) → k < 128 → C i k → A i k ⊎ B i k)
     → ((i k : ℕ) → k < 128 → A i k → C i k) → ((i k : ℕ) → k < 128 → B i k → C i k)
     → AreAdded number A counts mid row between → AreAdded number B mid after between now
     → AreAdded number C counts after row now
@@ -85,8 +82,7 @@ added_more number A B C counts mid after row between now split a b g h = record 
 }
   where
     marks : (i : ℕ) (old new : PinCount) → slice_get counts i ≡ Some old
-        → slice_get after i ≡ Some new
-        → IsMarked number ((k : ℕ) × (k < 128) × C i k) old new
+        → slice_get after i ≡ Some new → IsMarked number ((k : ℕ) × (k < 128) × C i k) old new
     marks i old new at at' =
         let lt : i < length mid = (let l = place_within counts i old at in let e = g.count in
         omega (arith, l, e)) in
@@ -100,8 +96,7 @@ added_more number A B C counts mid after row between now split a b g h = record 
             → ((k : ℕ) × (k < 128) × A i k) ⊎ ((k : ℕ) × (k < 128) × B i k)
         part i c = go (split i c.0 c.1 c.2)
           where
-            go : A i c.0 ⊎ B i c.0
-                → ((k : ℕ) × (k < 128) × A i k) ⊎ ((k : ℕ) × (k < 128) × B i k)
+            go : A i c.0 ⊎ B i c.0 → ((k : ℕ) × (k < 128) × A i k) ⊎ ((k : ℕ) × (k < 128) × B i k)
             go (inl x) = inl (c.0, c.1, x)
             go (inr x) = inr (c.0, c.1, x)
 
@@ -119,8 +114,7 @@ added_more number A B C counts mid after row between now split a b g h = record 
         go (inl x) = from_first ((g.lanes i k lt low).0 x)
         go (inr x) = inr (b i k low x)
 
-    back : (i k : ℕ) → i < length row → k < 128
-        → (lane (slice_index_or row i 0) k ≡ true) ⊎ C i k
+    back : (i k : ℕ) → i < length row → k < 128 → (lane (slice_index_or row i 0) k ≡ true) ⊎ C i k
         → lane (slice_index_or now i 0) k ≡ true
     back i k lt low x =
         let far : i < length between = (let e = g.room in omega (arith, lt, e)) in go far x

@@ -1,16 +1,12 @@
 -- What is added to the numbers and the lanes of all pins, group by group.
-use Rattle.std.proofs.Common.{◌≡◌, ◌≢◌, ◌<◌, ◌≤◌, ◌+◌, ◌∙◌, ℕ, refl, sym, ap, subst}
-use Rattle.std.proofs.Common.{true, List, length, arith, inl, inr, set, ◌⊎◌}
-use Rattle.std.specs.Prelude.{Some, slice_get, slice_index_or}
-use Rattle.std.specs.Bool.{Decides}
-use Rattle.std.proofs.lemmas.Bool.{cases_eq}
+use Rattle.std.proofs.Common.{◌≡◌, ◌≢◌, ◌<◌, ◌≤◌, ◌+◌, ◌∙◌, ℕ, refl, sym, ap, subst, true, List}
+use Rattle.std.{proofs.Common.{length, arith, inl, inr, set, ◌⊎◌}, specs.Bool.Decides}
+use Rattle.std.{specs.Prelude.{Some, slice_get, slice_index_or}, proofs.lemmas.Bool.cases_eq}
 use Rattle.std.proofs.lemmas.List.{length-set}
-use Rattle.flat_circuit.specs.Words.{lane}
-use Rattle.flat_circuit.proofs.Public.{set_here, set_there}
+use Rattle.flat_circuit.{specs.Words.lane, proofs.Public.{set_here, set_there}}
 use Rattle.list_lemmas.proofs.Places.{place_within, within_place}
-use Rattle.blocking_pins.specs.declared.tally.PinCount.{PinCount}
+use Rattle.blocking_pins.specs.{declared.tally.PinCount.PinCount, Counting.IsMarked.unblocked}
 use Rattle.blocking_pins.specs.Counting.{AreAdded, AreAllAdded, IsMarked}
-use Rattle.blocking_pins.specs.Counting.IsMarked.{unblocked}
 use Rattle.blocking_pins.proofs.Adding.{marked_more}
 
 same_some : {X : Type 0} (x y : X) → Some x ≡ Some y → x ≡ y
@@ -84,8 +80,7 @@ module _ (number : ℕ) (B : ℕ → ℕ → ℕ → Type 0) (end : ℕ) (counts
       marked_more number (Before i) (Here i) (Now i) old m.0 new
       (λ w. split i w (before_or w.0 end w.2))
       (λ w. (w.0, w.1, (let low = w.2 in omega (arith, low)), w.3, w.4))
-      (λ w. (end, w.0, omega arith, w.1, w.2)) (h.marks i old m.0 is m.1)
-      (g.marks i m.0 new m.1 e)
+      (λ w. (end, w.0, omega arith, w.1, w.2)) (h.marks i old m.0 is m.1) (g.marks i m.0 new m.1 e)
 
   module _ (group : ℕ) (old x : List ℕ) (i k : ℕ) (is : slice_get rows group ≡ Some old)
       (e : slice_get (set now end next) group ≡ Some x) (lt : i < length old) (low : k < 128) where

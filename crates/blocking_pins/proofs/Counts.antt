@@ -1,10 +1,8 @@
 -- How many numbers have a property.
-use Rattle.std.proofs.Common.{◌≡◌, ◌<◌, ◌≤◌, ◌+◌, ℕ, zero, suc, arith, inl, inr, ◌⊎◌, subst}
-use Rattle.std.proofs.Common.{Bool, false, refl, true}
-use Rattle.std.specs.Prelude.{if◌then◌else◌}
+use Rattle.std.proofs.Common.{◌≡◌, ◌<◌, ◌≤◌, ◌+◌, ℕ, zero, suc, arith, inl, inr, ◌⊎◌, subst, Bool}
+use Rattle.std.{proofs.Common.{false, refl, true}, specs.Prelude.if◌then◌else◌}
 use Rattle.std.proofs.lemmas.Bool.{false≢true}
-use Rattle.blocking_pins.specs.Blocking.{HaveCount}
-use Rattle.blocking_pins.specs.Blocking.HaveCount.{none, counted, skipped}
+use Rattle.blocking_pins.specs.Blocking.{HaveCount, HaveCount.{none, counted, skipped}}
 
 pub count_within : (P : ℕ → Type 0) (n k : ℕ) → HaveCount P n k → k ≤ n
 count_within P zero zero none = omega arith

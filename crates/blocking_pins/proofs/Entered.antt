@@ -1,14 +1,11 @@
 -- The pins of a gate that see another bit, pin by pin.
 use Rattle.std.proofs.Common.{◌≡◌, ◌≢◌, ◌<◌, ◌≤◌, ◌+◌, ◌∙◌, ℕ, refl, sym, ap, subst, Bool, true}
-use Rattle.std.proofs.Common.{false, List, length, arith, inl, inr, ◌⊎◌}
+use Rattle.std.{proofs.Common.{false, List, length, arith, inl, inr, ◌⊎◌}, specs.Bool.Decides}
 use Rattle.std.specs.Prelude.{Some, bit_or, bit_xor, slice_get, slice_index_or, ◌||◌}
-use Rattle.std.specs.Bool.{Decides}
-use Rattle.std.proofs.lemmas.Bool.{false≢true}
-use Rattle.std.proofs.lemmas.Option.{get_or_from_slice_get, slice_get-get_or}
+use Rattle.std.proofs.lemmas.{Bool.false≢true, Option.{get_or_from_slice_get, slice_get-get_or}}
 use Rattle.list_lemmas.proofs.Places.{place_within}
 use Rattle.fault_model.specs.declared.Line.TheVariants as line
-use Rattle.fault_model.specs.Fault.{Fault}
-use Rattle.fault_model.specs.Solution.{under}
+use Rattle.fault_model.specs.{Fault.Fault, Solution.under}
 use Rattle.flat_circuit.specs.Words.{lane, word_over}
 use Rattle.flat_circuit.proofs.Public.{lane_or, lane_xor, lane_zero, unlike}
 use Rattle.blocking_pins.specs.Effects.{Differs}
@@ -66,8 +63,7 @@ module _ (f : Fault) (good delta : List ℕ) (gate : ℕ) (pins : List ℕ) (k :
     own_lane : lane own k ≡ unlike (lane seen k) (lane (slice_index_or good read 0) k)
     own_lane = lane_xor seen (slice_index_or good read 0) k
 
-    to : (lane word k ≡ true) ⊎ (lane own k ≡ true)
-        → DiffersBelow f good delta gate pins k (i + 1)
+    to : (lane word k ≡ true) ⊎ (lane own k ≡ true) → DiffersBelow f good delta gate pins k (i + 1)
     to (inl on) = let w = h.0 on in (w.0, (let low = w.1 in omega (arith, low)), w.2, w.3, w.4)
     to (inr on) = (
       i,

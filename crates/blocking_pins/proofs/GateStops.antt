@@ -1,21 +1,14 @@
 -- The lanes in which the pins of a gate block the effect of a fault.
-use Rattle.std.proofs.Common.{◌≡◌, ◌≢◌, ◌<◌, ◌≤◌, ◌+◌, ◌^◌, ◌∙◌, ℕ, refl}
-use Rattle.std.proofs.Common.{sym, ap, subst, Bool, true}
-use Rattle.std.proofs.Common.{false, not, List, length, arith, inl, inr, ◌⊎◌}
+use Rattle.std.proofs.Common.{◌≡◌, ◌≢◌, ◌<◌, ◌≤◌, ◌+◌, ◌^◌, ◌∙◌, ℕ, refl, sym, ap, subst, Bool}
+use Rattle.std.proofs.Common.{true, false, not, List, length, arith, inl, inr, ◌⊎◌}
 use Rattle.std.specs.Prelude.{None, Option, Some, bit_and, bit_xor, slice_get, slice_index_or}
-use Rattle.std.specs.Prelude.{unwrap_or, ◌&&◌}
-use Rattle.std.specs.Bool.{Decides}
-use Rattle.std.proofs.lemmas.Bool.{false≢true}
-use Rattle.bench_net.specs.declared.Kind.{Kind}
-use Rattle.bench_net.specs.Statement.{Statement}
-use Rattle.bench_net.specs.Scan.{gate_of}
+use Rattle.std.{specs.Prelude.{unwrap_or, ◌&&◌}, specs.Bool.Decides, proofs.lemmas.Bool.false≢true}
+use Rattle.bench_net.specs.{declared.Kind.Kind, Statement.Statement, Scan.gate_of}
 use Rattle.fault_model.specs.declared.Line.TheVariants as line
-use Rattle.fault_model.specs.Fault.{Fault}
-use Rattle.fault_model.specs.Solution.{under}
+use Rattle.fault_model.specs.{Fault.Fault, Solution.under}
 use Rattle.flat_circuit.specs.Words.{lane, word_over}
 use Rattle.flat_circuit.proofs.Public.{lane_and, lane_xor, left_of, right_of, unlike}
-use Rattle.blocking_pins.specs.Blocking.{controlling}
-use Rattle.blocking_pins.specs.Effects.{Differs, Stops}
+use Rattle.blocking_pins.specs.{Blocking.controlling, Effects.{Differs, Stops}}
 use Rattle.blocking_pins.proofs.SteadyLanes.{both}
 use Rattle.list_lemmas.proofs.Places.{place_within}
 
@@ -142,8 +135,7 @@ pub stops_split : (c : List Statement) (f : Fault) (good delta : List ℕ)
     → (i k : ℕ) → k < 128 → StopsBelow c f good delta gate lanes start (pin + 1) i k
     → StopsBelow c f good delta gate lanes start pin i k
     ⊎ ((i ≡ start + pin) × (lane blocked k ≡ true))
-stops_split c f good delta gate lanes start pin blocked block i k low s =
-    go (before_or s.0 pin s.1)
+stops_split c f good delta gate lanes start pin blocked block i k low s = go (before_or s.0 pin s.1)
   where
     go : (s.0 < pin) ⊎ (s.0 ≡ pin) → StopsBelow c f good delta gate lanes start pin i k
         ⊎ ((i ≡ start + pin) × (lane blocked k ≡ true))

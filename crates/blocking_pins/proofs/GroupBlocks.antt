@@ -2,30 +2,23 @@
 -- comes to.
 use Rattle.std.proofs.Common.{◌≡◌, ◌≢◌, ◌<◌, ◌≤◌, ◌+◌, ◌∙◌, ℕ, refl, sym, ap, subst, Bool, true}
 use Rattle.std.proofs.Common.{false, List, length, arith, inl, inr, map, ◌⊎◌}
-use Rattle.std.specs.Prelude.{Contains, None, Some, bit_xor, if◌then◌else◌, slice_get}
-use Rattle.std.specs.Prelude.{◌-◌, Option, option_map, slice_index_or, unwrap_or}
-use Rattle.std.proofs.lemmas.Bool.{cases_eq, false≢true}
-use Rattle.std.proofs.lemmas.List.{get_or_default, length-map}
-use Rattle.bench_net.specs.declared.Kind.{Kind}
-use Rattle.bench_net.specs.Statement.{Statement, Gate}
-use Rattle.bench_net.specs.Scan.{gate_of, names, signal}
-use Rattle.bench_net.specs.Circuit.{IsCircuit, IsWellFormed}
+use Rattle.std.specs.Prelude.{Contains, None, Some, bit_xor, if◌then◌else◌, slice_get, ◌-◌, Option}
+use Rattle.std.specs.Prelude.{option_map, slice_index_or, unwrap_or}
+use Rattle.std.proofs.lemmas.{Bool.{cases_eq, false≢true}, List.{get_or_default, length-map}}
+use Rattle.bench_net.specs.{declared.Kind.Kind, Statement.{Statement, Gate}}
+use Rattle.bench_net.specs.{Scan.{gate_of, names, signal}, Circuit.{IsCircuit, IsWellFormed}}
 use Rattle.list_lemmas.proofs.Places.{place_within}
 use Rattle.fault_model.specs.declared.Line.TheVariants as line
-use Rattle.fault_model.specs.Fault.{Fault, same_line}
+use Rattle.fault_model.specs.{Fault.{Fault, same_line}, Solution.{Test, under}}
 use Rattle.fault_model.specs.Reordered.{IsReordered, moved_fault, moved_gate, place}
-use Rattle.fault_model.specs.Solution.{Test, under}
 use Rattle.fault_model.proofs.Public.{same_lines, same_signals, under_other, well_reordered}
-use Rattle.flat_circuit.specs.Readers.{Reads}
-use Rattle.flat_circuit.specs.Words.{AreWords, lane, test_of, word_over}
+use Rattle.flat_circuit.specs.{Readers.Reads, Words.{AreWords, lane, test_of, word_over}}
 use Rattle.flat_circuit.proofs.Public.{gate_at, lane_same, nothing, pins_some}
 use Rattle.block_sim.proofs.Public.{gate_named_of_signal_equations}
-use Rattle.blocking_pins.specs.declared.gate_pins.GatePin.{GatePin}
-use Rattle.blocking_pins.specs.Blocking.{Blocks}
+use Rattle.blocking_pins.specs.{declared.gate_pins.GatePin.GatePin, Blocking.Blocks}
 use Rattle.blocking_pins.specs.Counting.{BlocksInLane, StopsAt, StopsReached}
 use Rattle.blocking_pins.specs.Effects.{AreFaulty, AreGatePins, IsTouched, Stops}
-use Rattle.blocking_pins.proofs.SignalReaders.{reads_pin}
-use Rattle.blocking_pins.proofs.StoppedEffects.{stops_back, stops_there}
+use Rattle.blocking_pins.proofs.{SignalReaders.reads_pin, StoppedEffects.{stops_back, stops_there}}
 
 -- of one of the first gates that the effect came to
 abbrev pub ReachedBelow : List Statement → Fault → List ℕ → List ℕ → ℕ → List ℕ → List ℕ → ℕ → ℕ
@@ -38,8 +31,7 @@ before_or i n lt = grind (arith, lt)
 
 module _ (d : List Statement) (f : Fault) (good delta : List ℕ) (lanes : ℕ)
     (starts reached : List ℕ) where
-  pub reached_split : (j i k : ℕ)
-      → ReachedBelow d f good delta lanes starts reached (j + 1) i k
+  pub reached_split : (j i k : ℕ) → ReachedBelow d f good delta lanes starts reached (j + 1) i k
       → ReachedBelow d f good delta lanes starts reached j i k
       ⊎ StopsAt d f good delta lanes starts (slice_index_or reached j 0) i k
   reached_split j i k s = go (before_or s.0 j s.1)
@@ -69,8 +61,7 @@ module _ (d : List Statement) (f : Fault) (good delta : List ℕ) (lanes : ℕ)
       get_or_default reached at.0 0 s.0 at.1 ∙ at.2 in (
         at.0,
         omega (arith, lt, le),
-        subst (λ x. StopsAt d f good delta lanes starts x i k)
-            (sym is) s.2,
+        subst (λ x. StopsAt d f good delta lanes starts x i k) (sym is) s.2,
       )
 
 -- a pin that differs is one that the effect comes to

@@ -1,16 +1,12 @@
 -- In the lanes of a group the pins that block are those under the lanes' tests.
 use Rattle.std.proofs.Common.{◌≡◌, ◌<◌, ◌+◌, ◌*◌, ◌∙◌, ℕ, sym, subst, List, [], length, true}
-use Rattle.std.specs.Prelude.{Some, slice_get}
-use Rattle.std.specs.Bool.{Decides}
+use Rattle.std.specs.{Prelude.{Some, slice_get}, Bool.Decides}
 use Rattle.std.proofs.lemmas.Option.{get_or_from_slice_get}
 use Rattle.bench_net.specs.Statement.{Statement}
-use Rattle.fault_model.specs.Detection.{LooksBack}
-use Rattle.fault_model.specs.Fault.{Fault}
-use Rattle.fault_model.specs.Solution.{Test}
+use Rattle.fault_model.specs.{Detection.LooksBack, Fault.Fault, Solution.Test}
 use Rattle.flat_circuit.specs.Words.{lane, test_of}
 use Rattle.list_lemmas.proofs.Places.{place_within, within_place}
-use Rattle.blocking_pins.specs.declared.gate_pins.GatePin.{GatePin}
-use Rattle.blocking_pins.specs.Blocking.{Blocks}
+use Rattle.blocking_pins.specs.{declared.gate_pins.GatePin.GatePin, Blocking.Blocks}
 use Rattle.blocking_pins.specs.Counting.{BlocksAtPlace, BlocksInLane}
 
 module _ (c : List Statement) (tests : List Test) (group lanes : ℕ) (f : Fault)

@@ -1,12 +1,9 @@
 -- A fault of a job's list in the form of the code.
 use Rattle.std.proofs.Common.{◌≡◌, ◌∙◌, ℕ, Bool, ap, refl, subst, sym}
 use Rattle.std.specs.Prelude.{Contains, IfSome, Some, slice_get}
-use Rattle.list_lemmas.proofs.Members.{contained}
-use Rattle.list_lemmas.proofs.Places.{at_place}
-use Rattle.fault_model.specs.declared.Line.{Line}
-use Rattle.fault_model.specs.declared.Model.{Model}
-use Rattle.fault_model.specs.Fault.{Fault, FaultList, faults}
-use Rattle.fault_model.proofs.Public.{listed_model}
+use Rattle.list_lemmas.proofs.{Members.contained, Places.at_place}
+use Rattle.fault_model.specs.declared.{Line.Line, Model.Model}
+use Rattle.fault_model.{specs.Fault.{Fault, FaultList, faults}, proofs.Public.listed_model}
 use Rattle.flat_circuit.specs.Origins.{IsStuckOf}
 use Rattle.block_sim.specs.Parts.{BelongTogether, Parts}
 
@@ -31,8 +28,7 @@ stuck_listed job list fault f m l b together part at is_model is_line is_bit =
     contained (faults job.list.model job.circuit) f
     (at_place (faults job.list.model job.circuit) fault f
     (ap (λ (x : FaultList). slice_get x.list fault) (sym together.list) ∙ at)) in
-    let model_is : f.model ≡ job.list.model =
-    listed_model job.list.model job.circuit f in_list in
+    let model_is : f.model ≡ job.list.model = listed_model job.list.model job.circuit f in_list in
     record {
       listed = subst (λ x. Contains (faults x job.circuit) f) (sym model_is) in_list;
       is = same_fault m f.model l f.line b f.stuck

@@ -1,14 +1,11 @@
 -- One pin was noted.
-use Rattle.std.proofs.Common.{◌≡◌, ◌≢◌, ◌<◌, ◌≤◌, ◌+◌, ◌-◌, ◌^◌, ◌∙◌, ℕ, refl, sym, ap, subst}
-use Rattle.std.proofs.Common.{Bool, true, false, List, length, arith, inl, inr, set, ◌⊎◌}
+use Rattle.std.proofs.Common.{◌≡◌, ◌≢◌, ◌<◌, ◌≤◌, ◌+◌, ◌-◌, ◌^◌, ◌∙◌, ℕ, refl, sym, ap, subst, Bool}
+use Rattle.std.proofs.Common.{true, false, List, length, arith, inl, inr, set, ◌⊎◌}
 use Rattle.std.specs.Prelude.{Some, bit_or, min, slice_get, slice_index_or, ◌||◌}
-use Rattle.std.proofs.lemmas.Bool.{cases_eq}
-use Rattle.std.proofs.lemmas.List.{get_or-set_same, get_or-set_other, length-set}
+use Rattle.std.proofs.lemmas.{Bool.cases_eq, List.{get_or-set_same, get_or-set_other, length-set}}
 use Rattle.std.proofs.lemmas.Option.{get_or_from_slice_get}
-use Rattle.flat_circuit.specs.Words.{lane}
-use Rattle.flat_circuit.proofs.Public.{lane_or, set_here, set_there, some_lane}
-use Rattle.blocking_pins.specs.declared.tally.PinCount.{PinCount}
-use Rattle.blocking_pins.specs.Counting.{AreAdded, IsMarked}
+use Rattle.flat_circuit.{specs.Words.lane, proofs.Public.{lane_or, set_here, set_there, some_lane}}
+use Rattle.blocking_pins.specs.{declared.tally.PinCount.PinCount, Counting.{AreAdded, IsMarked}}
 use Rattle.blocking_pins.specs.Counting.IsMarked.{unblocked, again, first}
 
 module _ (number at lanes : ℕ) (counts after : List PinCount) (row : List ℕ)
@@ -38,8 +35,7 @@ module _ (number at lanes : ℕ) (counts after : List PinCount) (row : List ℕ)
       first (l.0, l.1, (is, l.2)) e.0 e.1
 
   marks_of : (i : ℕ) (old new : PinCount) → slice_get counts i ≡ Some old
-      → slice_get after i ≡ Some new
-      → IsMarked number ((k : ℕ) × (k < 128) × Noted i k) old new
+      → slice_get after i ≡ Some new → IsMarked number ((k : ℕ) × (k < 128) × Noted i k) old new
   marks_of i old new here there = go (cases_eq i at)
     where
       go : (i ≡ at) ⊎ (i ≢ at) → IsMarked number ((k : ℕ) × (k < 128) × Noted i k) old new
@@ -73,8 +69,7 @@ module _ (number at lanes : ℕ) (counts after : List PinCount) (row : List ℕ)
     lanes = λ i k lt low. (λ on. to i k (cases_eq i at) on, λ h. from i k (cases_eq i at) h);
   }
     where
-      kept : (i k : ℕ) → i ≢ at
-          → lane (slice_index_or now i 0) k ≡ lane (slice_index_or row i 0) k
+      kept : (i k : ℕ) → i ≢ at → lane (slice_index_or now i 0) k ≡ lane (slice_index_or row i 0) k
       kept i k ne = ap (λ w. lane w k)
           (get_or-set_other row at i (bit_or (slice_index_or row at 0) lanes) 0 ne)
 
@@ -89,8 +84,7 @@ module _ (number at lanes : ℕ) (counts after : List PinCount) (row : List ℕ)
           go (inl e) = inl (ap (λ x. lane (slice_index_or row x 0) k) is ∙ e)
           go (inr e) = inr (is, e)
 
-      from : (i k : ℕ) → (i ≡ at) ⊎ (i ≢ at)
-          → (lane (slice_index_or row i 0) k ≡ true) ⊎ Noted i k
+      from : (i k : ℕ) → (i ≡ at) ⊎ (i ≢ at) → (lane (slice_index_or row i 0) k ≡ true) ⊎ Noted i k
           → lane (slice_index_or now i 0) k ≡ true
       from i k (inr ne) (inl e) = kept i k ne ∙ e
       from i k (inr ne) (inr e) = absurd (ne e.0)
@@ -111,16 +105,14 @@ pub noted_again : (number at lanes : ℕ) (counts : List PinCount) (row : List �
     (set row at (bit_or (slice_index_or row at 0) lanes))
 noted_again number at lanes counts row d fits some same within is =
     noted_at number at lanes counts counts row fits some same within refl
-    (λ i old new ne here there. same_some new old (sym there ∙ here))
-    (λ old new here there. inl (
+    (λ i old new ne here there. same_some new old (sym there ∙ here)) (λ old new here there. inl (
       ap (λ (x : PinCount). x.last) (sym (get_or_from_slice_get counts at old d here)) ∙ is,
       same_some new old (sym there ∙ here),
     ))
 
 -- a fault that is counted first
 pub noted_first : (number at lanes faults : ℕ) (counts : List PinCount) (row : List ℕ)
-    (d : PinCount)
-    → lanes < 2 ^ 128 → lanes ≢ 0 → length row ≡ length counts → at < length counts
+    (d : PinCount) → lanes < 2 ^ 128 → lanes ≢ 0 → length row ≡ length counts → at < length counts
     → (slice_index_or counts at d).last ≢ number
     → faults ≡ min ((slice_index_or counts at d).faults + 1) (2 ^ 32 - 1)
     → AreAdded number (λ i k. (i ≡ at) × (lane lanes k ≡ true)) counts

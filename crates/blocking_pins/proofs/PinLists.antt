@@ -1,17 +1,13 @@
 -- The pins of gates, gate by gate.
 use Rattle.std.proofs.Common.{◌≡◌, ◌≢◌, ◌<◌, ◌≤◌, ◌+◌, ◌-◌, ◌∙◌, ℕ, zero, suc, refl, sym, ap, subst}
 use Rattle.std.proofs.Common.{List, [], ◌∷◌, ◌++◌, length, arith, inl, inr, set, map, get_or, ◌⊎◌}
-use Rattle.std.specs.Prelude.{AllPairs, Contains, None, Some, slice_get, slice_index_or}
-use Rattle.std.specs.Prelude.{unwrap_or}
+use Rattle.std.specs.Prelude.{AllPairs, Contains, None, Some, slice_get, slice_index_or, unwrap_or}
 use Rattle.std.proofs.lemmas.Bool.{cases_eq, cases_lt}
 use Rattle.std.proofs.lemmas.List.{get_or-append-add, get_or-set_other, get_or-set_same}
 use Rattle.std.proofs.lemmas.List.{get_or_append_left, length-append, length-set}
 use Rattle.std.proofs.lemmas.Option.{get_or_from_slice_get, slice_get-get_or}
-use Rattle.list_lemmas.proofs.Members.{among, contained}
-use Rattle.list_lemmas.proofs.Places.{at_place, place_within}
-use Rattle.bench_net.specs.declared.Kind.{Kind}
-use Rattle.bench_net.specs.Statement.{Statement}
-use Rattle.bench_net.specs.Scan.{gate_of, names}
+use Rattle.list_lemmas.proofs.{Members.{among, contained}, Places.{at_place, place_within}}
+use Rattle.bench_net.specs.{declared.Kind.Kind, Statement.Statement, Scan.{gate_of, names}}
 use Rattle.fault_model.specs.Reordered.{place}
 use Rattle.blocking_pins.specs.declared.gate_pins.GatePin.{GatePin}
 use Rattle.blocking_pins.specs.Effects.{AreAllPins, AreGatePins, ArePinsOf, IsBefore, IsGatePin}
@@ -26,10 +22,7 @@ pub record ArePinsBelow (gate end : ℕ) (pins : List GatePin) : Type 0 where
       → at ≡ record { gate = gate; pin = i }
 
 pub pins_none : (gate : ℕ) → ArePinsBelow gate 0 []
-pins_none gate = record {
-  count = refl;
-  each = λ i at e. let bad : None ≡ Some at = e in cc;
-}
+pins_none gate = record { count = refl; each = λ i at e. let bad : None ≡ Some at = e in cc }
 
 -- an element of a list with one more at the end
 push_at : {X : Type 0} (xs : List X) (y x : X) (i : ℕ) → slice_get (xs ++ y ∷ []) i ≡ Some x
@@ -100,8 +93,7 @@ pins_of c gate end pins kind reads is full h = record {
       omega (arith, long, full, count);
 }
 
-pub pins_of_source : (c : List Statement) (gate : ℕ) → gate_of c gate ≡ None
-    → ArePinsOf c gate []
+pub pins_of_source : (c : List Statement) (gate : ℕ) → gate_of c gate ≡ None → ArePinsOf c gate []
 pins_of_source c gate none = record {
   each = λ i at e. let bad : None ≡ Some at = e in cc;
   driven = λ i lt. absurd (omega (arith, lt));
@@ -155,8 +147,7 @@ module _ (c d : List Statement) (apart : (s t : ℕ) → place c d s ≡ place c
 
     back_of : (i : ℕ) (at : GatePin)
         → (slice_get pins i ≡ Some at) ⊎ ((j : ℕ) × (i ≡ length pins + j)
-        × (slice_get more j ≡ Some at))
-        → (at.gate < s + 1) × (kind : Kind) × (reads : List ℕ)
+        × (slice_get more j ≡ Some at)) → (at.gate < s + 1) × (kind : Kind) × (reads : List ℕ)
         × (gate_of c at.gate ≡ Some (kind, reads)) × (at.pin < length reads)
         × (i ≡ slice_index_or now (place c d at.gate) 0 + at.pin)
     back_of i at (inl e) =
@@ -206,8 +197,7 @@ module _ (c d : List Statement) (apart : (s t : ℕ) → place c d s ≡ place c
             subst (λ y. IsBefore y (get_or (pins ++ more) j x))
             (get_or_from_slice_get pins i (get_or (pins ++ more) i x) x a)
             (subst (IsBefore (get_or pins i x))
-            (get_or_from_slice_get pins j (get_or (pins ++ more) j x) x b)
-            (h.ordered i j x lt low))
+            (get_or_from_slice_get pins j (get_or (pins ++ more) j x) x b) (h.ordered i j x lt low))
         pairs (inl a) (inr b) =
             let first = (h.back i (get_or (pins ++ more) i x) a).0 in
             let exact = own.each b.0 (get_or (pins ++ more) j x) b.2 in
@@ -246,8 +236,7 @@ all_pins c d pins starts h within = record {
   each = λ i x lt.
       let b = h.back i (get_or pins i x) (slice_get-get_or pins i x lt) in
       (b.1, b.2, b.3, b.4);
-  all = λ gate pin kind reads is low.
-      contained pins (record { gate = gate; pin = pin })
+  all = λ gate pin kind reads is low. contained pins (record { gate = gate; pin = pin })
       (at_place pins (slice_index_or starts (place c d gate) 0 + pin)
       (record { gate = gate; pin = pin })
       (h.at gate pin kind reads (within gate kind reads is) is low));

@@ -1,31 +1,23 @@
 -- The rows of the pins that block some fault, pin by pin.
-use Rattle.std.proofs.Common.{◌≡◌, ◌≢◌, ◌<◌, ◌≤◌, ◌+◌, ◌*◌, ◌∙◌, ℕ, refl}
-use Rattle.std.proofs.Common.{sym, ap, subst, Bool, true}
-use Rattle.std.proofs.Common.{List, [], ◌∷◌, ◌++◌, length, arith, inl, inr, get_or, map, ◌⊎◌}
+use Rattle.std.proofs.Common.{◌≡◌, ◌≢◌, ◌<◌, ◌≤◌, ◌+◌, ◌*◌, ◌∙◌, ℕ, refl, sym, ap, subst, Bool}
+use Rattle.std.proofs.Common.{true, List, [], ◌∷◌, ◌++◌, length, arith, inl, inr, get_or, map, ◌⊎◌}
 use Rattle.std.specs.Prelude.{◌/◌, ◌%◌, All, AllPairs, Contains, None, Some, slice_get}
-use Rattle.std.specs.Prelude.{slice_index_or}
-use Rattle.std.specs.Bool.{Decides}
+use Rattle.std.specs.{Prelude.slice_index_or, Bool.Decides}
 use Rattle.std.proofs.lemmas.List.{get_or-append-add, get_or_append_left, length-append, length-map}
 use Rattle.std.proofs.lemmas.List.Elements.{All-append, All-nil}
 use Rattle.std.proofs.lemmas.Option.{get_or_from_slice_get, slice_get-get_or}
 use Rattle.list_lemmas.proofs.Members.{Among, among, among_left, among_right, contained}
 use Rattle.list_lemmas.proofs.Places.{at_place, place_within, placed, within_place}
-use Rattle.bench_net.specs.declared.Kind.{Kind}
-use Rattle.bench_net.specs.Circuit.{IsWellFormed}
-use Rattle.bench_net.specs.Scan.{gate_of, signal}
-use Rattle.block_sim.specs.Parts.{Parts}
-use Rattle.block_sim.proofs.Public.{gate_named_of_signal_equations}
-use Rattle.flat_circuit.specs.BlockSpans.{groups}
-use Rattle.flat_circuit.specs.Words.{lane}
-use Rattle.blocking_pins.specs.declared.gate_pins.GatePin.{GatePin}
-use Rattle.blocking_pins.specs.declared.pins.BlockingPin.{BlockingPin}
-use Rattle.blocking_pins.specs.declared.tally.PinCount.{PinCount}
+use Rattle.bench_net.specs.{declared.Kind.Kind, Circuit.IsWellFormed, Scan.{gate_of, signal}}
+use Rattle.block_sim.{specs.Parts.Parts, proofs.Public.gate_named_of_signal_equations}
+use Rattle.flat_circuit.specs.{BlockSpans.groups, Words.lane}
+use Rattle.blocking_pins.specs.declared.{gate_pins.GatePin.GatePin, pins.BlockingPin.BlockingPin}
+use Rattle.blocking_pins.{specs.declared.tally.PinCount.PinCount, proofs.PinLists.append_at}
 use Rattle.blocking_pins.specs.Blocking.{BlocksFault, BlocksSome, BlocksSometimes, ComesBefore}
 use Rattle.blocking_pins.specs.Blocking.{HaveCount, IsBlockingPin, controlling}
 use Rattle.blocking_pins.specs.Counting.{AreListedPins, HasBit, IsTallyBelow}
 use Rattle.blocking_pins.specs.Effects.{AreAllPins, IsBefore, IsGatePin}
 use Rattle.blocking_pins.proofs.Counts.{count_found, count_same, count_some}
-use Rattle.blocking_pins.proofs.PinLists.{append_at}
 
 -- a row is that of a pin
 abbrev pub IsRowOf : BlockingPin → GatePin → Type 0
@@ -100,8 +92,7 @@ module _ (job : Parts) (pins : List GatePin) (end : ℕ) (rows : List BlockingPi
     each = All-append (IsBlockingPin job) rows (row ∷ []) h.each (λ k d lt. last k d lt);
     from = λ x a. from x (split x a);
     all = λ i fault t x lt there b. all i fault t x there b (before_or i end lt);
-    ordered = λ i j d lt len.
-        ordered i j d lt
+    ordered = λ i j d lt len. ordered i j d lt
         (append_at rows (row ∷ []) (get_or (rows ++ row ∷ []) i d) i
         (slice_get-get_or (rows ++ row ∷ []) i d (omega (arith, lt, len))))
         (append_at rows (row ∷ []) (get_or (rows ++ row ∷ []) j d) j
@@ -133,13 +124,7 @@ module _ (job : Parts) (pins : List GatePin) (end : ℕ) (rows : List BlockingPi
           × (i < end + 1) × (slice_get pins i ≡ Some y) × IsRowOf x y
       from x (inl a) = let w = h.from x a in
           (w.0, w.1, (let lt = w.2 in omega (arith, lt)), w.3, w.4)
-      from x (inr e) = (
-        end,
-        at,
-        omega arith,
-        here,
-        subst (λ y. IsRowOf y at) (sym e) is,
-      )
+      from x (inr e) = (end, at, omega arith, here, subst (λ y. IsRowOf y at) (sym e) is)
 
       all : (i fault t : ℕ) (x : GatePin) → slice_get pins i ≡ Some x
           → BlocksFault job x.gate x.pin fault t → (i < end) ⊎ (i ≡ end)
@@ -158,8 +143,7 @@ module _ (job : Parts) (pins : List GatePin) (end : ℕ) (rows : List BlockingPi
           ⊎ ((k : ℕ) × (j ≡ length rows + k)
           × (slice_get (row ∷ []) k ≡ Some (get_or (rows ++ row ∷ []) j d)))
           → ComesBefore (get_or (rows ++ row ∷ []) i d) (get_or (rows ++ row ∷ []) j d)
-      ordered i j d lt (inl a) (inl b) =
-          subst (λ x. ComesBefore x (get_or (rows ++ row ∷ []) j d))
+      ordered i j d lt (inl a) (inl b) = subst (λ x. ComesBefore x (get_or (rows ++ row ∷ []) j d))
           (get_or_from_slice_get rows i (get_or (rows ++ row ∷ []) i d) d a)
           (subst (ComesBefore (get_or rows i d))
           (get_or_from_slice_get rows j (get_or (rows ++ row ∷ []) j d) d b)
@@ -255,16 +239,14 @@ pub pin_row : (job : Parts) (pins : List GatePin) (counts : List PinCount) (rows
     → HaveCount (HasBit rows i) (length job.tests.tests) row.tests
     → (kind : Kind) (reads : List ℕ) → gate_of job.circuit at.gate ≡ Some (kind, reads)
     → slice_get reads at.pin ≡ Some row.read
-    → ((value : Bool) → controlling kind ≡ Some value → row.value ≡ value)
-    → IsBlockingPin job row
+    → ((value : Bool) → controlling kind ≡ Some value → row.value ≡ value) → IsBlockingPin job row
 pin_row job pins counts rows h well i at count here there row is faults some tests kind reads
     driven read value =
     let own = h.faults i at count here there in
     let found = count_found (BlocksSometimes job at.gate at.pin) (length job.list.list)
     count.faults own some in
     let b = blocks_driven job well at.gate at.pin found.0 found.2.0 found.2.1 in
-    let pair : (b.0, b.1) ≡ (kind, reads) = same_some (b.0, b.1) (kind, reads)
-    (sym b.2 ∙ driven) in
+    let pair : (b.0, b.1) ≡ (kind, reads) = same_some (b.0, b.1) (kind, reads) (sym b.2 ∙ driven) in
     let one_kind : b.0 ≡ kind = ap (λ (p : Kind × List ℕ). p.0) pair in
     let controls : controlling kind ≡ Some b.4 = ap controlling (sym one_kind) ∙ b.5 in
     record {

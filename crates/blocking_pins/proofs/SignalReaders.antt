@@ -1,23 +1,16 @@
 -- The readers of signals, gate by gate and pin by pin.
 use Rattle.std.proofs.Common.{◌≡◌, ◌≢◌, ◌<◌, ◌≤◌, ◌+◌, ◌∙◌, ℕ, refl, sym, ap, subst, List, [], ◌∷◌}
-use Rattle.std.proofs.Common.{◌++◌, length, arith, inl, inr, set, map, ◌⊎◌}
+use Rattle.std.proofs.{Common.{◌++◌, length, arith, inl, inr, set, map, ◌⊎◌}, lemmas.Bool.cases_eq}
 use Rattle.std.specs.Prelude.{All, Contains, None, Option, Some, slice_get, slice_index_or}
-use Rattle.std.specs.Prelude.{unwrap_or}
-use Rattle.std.proofs.lemmas.Bool.{cases_eq}
-use Rattle.std.proofs.lemmas.List.{length-set}
+use Rattle.std.{specs.Prelude.unwrap_or, proofs.lemmas.List.length-set}
 use Rattle.std.proofs.lemmas.List.Elements.{All-append, All-nil, Contains-get_or}
 use Rattle.std.proofs.lemmas.Option.{get_or_from_slice_get}
-use Rattle.bench_net.specs.declared.Kind.{Kind}
-use Rattle.bench_net.specs.Statement.{Statement, Gate}
-use Rattle.bench_net.specs.Scan.{gate_of, names, signal}
-use Rattle.bench_net.specs.Circuit.{IsWellFormed}
+use Rattle.bench_net.specs.{declared.Kind.Kind, Statement.{Statement, Gate}, Circuit.IsWellFormed}
+use Rattle.bench_net.{specs.Scan.{gate_of, names, signal}, proofs.Public.signal-name_of}
 use Rattle.list_lemmas.proofs.Members.{Among, among, among_left, among_map, among_right, contained}
 use Rattle.list_lemmas.proofs.Members.{mapped_from}
-use Rattle.list_lemmas.proofs.Places.{place_within, placed, within_place}
-use Rattle.bench_net.proofs.Public.{signal-name_of}
-use Rattle.list_lemmas.proofs.Places.{at_place}
-use Rattle.flat_circuit.specs.Readers.{Reads}
-use Rattle.flat_circuit.proofs.Public.{gate_at, set_here, set_there}
+use Rattle.list_lemmas.proofs.Places.{place_within, placed, within_place, at_place}
+use Rattle.flat_circuit.{specs.Readers.Reads, proofs.Public.{gate_at, set_here, set_there}}
 use Rattle.block_sim.proofs.Public.{gate_named_of_signal_equations}
 use Rattle.blocking_pins.specs.Effects.{HaveReadersBelow}
 
@@ -66,10 +59,7 @@ module _ (c : List Statement) (g : ℕ) (kind : Kind) (items : List ℕ) (well :
     (is : gate_of c g ≡ Some (kind, items)) where
   pub readers_begin : (rows : List (List ℕ)) → HaveReadersBelow c g rows
       → HaveReadersIn c g items 0 rows
-  readers_begin rows h = record {
-    below = h;
-    own = λ j s row lt. absurd (omega (arith, lt));
-  }
+  readers_begin rows h = record { below = h; own = λ j s row lt. absurd (omega (arith, lt)) }
 
   -- the gate reads the signal of each pin
   pub reads_pin : (i s : ℕ) → slice_get items i ≡ Some s → Reads c g s
@@ -90,8 +80,7 @@ module _ (c : List Statement) (g : ℕ) (kind : Kind) (items : List ℕ) (well :
       }
 
   pub readers_more : (i s : ℕ) (rows : List (List ℕ)) (old : List ℕ)
-      → slice_get items i ≡ Some s → slice_get rows s ≡ Some old
-      → HaveReadersIn c g items i rows
+      → slice_get items i ≡ Some s → slice_get rows s ≡ Some old → HaveReadersIn c g items i rows
       → HaveReadersIn c g items (i + 1) (set rows s (old ++ g ∷ []))
   readers_more i s rows old at there h = record {
     below = record {
@@ -135,14 +124,12 @@ module _ (c : List Statement) (g : ℕ) (kind : Kind) (items : List ℕ) (well :
           → ((before : List ℕ) → slice_get rows t ≡ Some before → Contains before r)
           → Contains row r
       grown t row r here (inr ne) has = has row (kept_at t row here ne)
-      grown t row r here (inl same) has =
-          subst (λ l. Contains l r) (sym (new_at t row here same))
+      grown t row r here (inl same) has = subst (λ l. Contains l r) (sym (new_at t row here same))
           (contained (old ++ g ∷ []) r (among_left old (g ∷ []) r (among old r
           (has old (ap (slice_get rows) same ∙ there)))))
 
       all : (r t : ℕ) (row : List ℕ) → r < g → Reads c r t
-          → slice_get (set rows s (old ++ g ∷ [])) t ≡ Some row → (t ≡ s) ⊎ (t ≢ s)
-          → Contains row r
+          → slice_get (set rows s (old ++ g ∷ [])) t ≡ Some row → (t ≡ s) ⊎ (t ≢ s) → Contains row r
       all r t row lt reads here case =
           grown t row r here case (λ before at'. h.below.all r t before lt reads at')
 

@@ -2,32 +2,25 @@
 use Rattle.std.proofs.Common.{◌≡◌, ◌≢◌, ◌<◌, ◌≤◌, ℕ, ◌+◌, refl, sym, ◌∙◌, ap, subst, Bool, true}
 use Rattle.std.proofs.Common.{false, List, [], ◌∷◌, ◌++◌, length, arith, set, inl, inr, ◌⊎◌}
 use Rattle.std.specs.Prelude.{All, Contains, Some, None, map, slice_index_or, bit_and, bit_xor}
-use Rattle.std.proofs.lemmas.List.{get_or-set_same, get_or-set_other, set-get_or}
-use Rattle.std.proofs.lemmas.List.Elements.{All-nil}
+use Rattle.std.proofs.lemmas.List.{get_or-set_same, get_or-set_other, set-get_or, Elements.All-nil}
 use Rattle.std.proofs.lemmas.Bool.{cases_eq, false≢true, eq-eqb}
-use Rattle.bench_net.specs.declared.Kind.{Kind}
-use Rattle.bench_net.specs.Statement.{Name, Statement, Gate}
-use Rattle.bench_net.specs.Scan.{names, signal, gate_line, gate_of}
-use Rattle.bench_net.specs.Circuit.{IsWellFormed}
+use Rattle.bench_net.specs.{declared.Kind.Kind, Statement.{Name, Statement, Gate}}
+use Rattle.bench_net.specs.{Scan.{names, signal, gate_line, gate_of}, Circuit.IsWellFormed}
 use Rattle.list_lemmas.proofs.Places.{place_within}
 use Rattle.list_lemmas.proofs.Members.{among, among_left, among_right, contained}
-use Rattle.fault_model.specs.declared.Line.{Line}
-use Rattle.fault_model.specs.declared.Line.TheVariants as line
-use Rattle.fault_model.specs.Fault.{Fault, faults, same_line}
-use Rattle.fault_model.specs.Solution.{Test, Solves, under}
-use Rattle.fault_model.specs.Detection.{name_on}
+use Rattle.fault_model.specs.{declared.Line.Line, Fault.{Fault, faults, same_line}}
+use Rattle.fault_model.specs.{Solution.{Test, Solves, under}, Detection.name_on}
 use Rattle.fault_model.proofs.Public.{carries, same_lines, under_other}
-use Rattle.flat_circuit.specs.Readers.{Reads, IsRising}
+use Rattle.fault_model.specs.declared.Line.TheVariants as line
+use Rattle.flat_circuit.{specs.Readers.{Reads, IsRising}, proofs.Public.reader_within}
 use Rattle.flat_circuit.specs.Words.{AreWords, lane, lane_bits, test_of, word_over}
 use Rattle.flat_circuit.proofs.Public.{changed_to, gate_within, lane_same, no_loop, pin_of}
-use Rattle.flat_circuit.proofs.Public.{reader_within}
 use Rattle.block_sim.specs.Events.{bits_of, HasEquation, IsElsewhere}
 use Rattle.block_sim.proofs.Public.{each_equation, equation_elsewhere, equation_same}
 use Rattle.block_sim.proofs.Public.{gate_named_of_signal_equations}
 use Rattle.blocking_pins.specs.Effects.{AreFaulty, CanChange, IsSpreading, IsTouched, IsVisited}
-use Rattle.blocking_pins.specs.Effects.{IsWordUnder}
+use Rattle.blocking_pins.{specs.Effects.IsWordUnder, proofs.Equations.{equation_stuck, word_other}}
 use Rattle.blocking_pins.proofs.Equations.{all_equations, equation_kept, equation_of}
-use Rattle.blocking_pins.proofs.Equations.{equation_stuck, word_other}
 
 -- a fault is on the stem or not
 pub on_stem : (f : Fault) (g : ℕ) → (f.line ≡ line.Stem g) ⊎ (f.line ≢ line.Stem g)
@@ -72,8 +65,7 @@ module _ (c : List Statement) (f : Fault) (good : List ℕ) (lanes : ℕ) (well 
     new_at = ap (λ l. slice_index_or l g 0) v.changed ∙ get_or-set_same delta g diff 0 in_delta
 
     kept_at : (s : ℕ) → s ≢ g → slice_index_or after s 0 ≡ slice_index_or delta s 0
-    kept_at s ne = ap (λ l. slice_index_or l s 0) v.changed
-        ∙ get_or-set_other delta g s diff 0 ne
+    kept_at s ne = ap (λ l. slice_index_or l s 0) v.changed ∙ get_or-set_other delta g s diff 0 ne
 
     -- a signal that waits did so before, or reads the signal
     which : (t : ℕ) → slice_index_or now t 0 ≢ 0
@@ -144,8 +136,7 @@ module _ (c : List Statement) (f : Fault) (good : List ℕ) (lanes : ℕ) (well 
         (among_left reached (g ∷ []) x (among reached x there)))
     listed_now x (inl ne) = go (cases_eq x g)
       where
-        go : (x ≡ g) ⊎ (x ≢ g)
-            → (slice_index_or now x 0 ≢ 0) ⊎ Contains (reached ++ g ∷ []) x
+        go : (x ≡ g) ⊎ (x ≢ g) → (slice_index_or now x 0 ≢ 0) ⊎ Contains (reached ++ g ∷ []) x
         go (inl same) = inr (contained (reached ++ g ∷ []) x
             (among_right reached (g ∷ []) x (inl (sym same))))
         go (inr other) = inl (still x other ne)
@@ -155,8 +146,7 @@ module _ (c : List Statement) (f : Fault) (good : List ℕ) (lanes : ℕ) (well 
     touched x (inl pin) = listed_now x (h.touched x (inl pin))
     touched x (inr w) = go (cases_eq w.0 g)
       where
-        go : (w.0 ≡ g) ⊎ (w.0 ≢ g)
-            → (slice_index_or now x 0 ≢ 0) ⊎ Contains (reached ++ g ∷ []) x
+        go : (w.0 ≡ g) ⊎ (w.0 ≢ g) → (slice_index_or now x 0 ≢ 0) ⊎ Contains (reached ++ g ∷ []) x
         go (inl same) = inl (v.readers x (subst (Reads c x) same w.1)
             (subst (λ s. slice_index_or after s 0 ≢ 0) same w.2))
         go (inr other) = listed_now x (h.touched x (inr (
@@ -232,8 +222,7 @@ module _ (c : List Statement) (f : Fault) (good : List ℕ) (lanes : ℕ) (well 
 
   pub spread_touched : (delta at reached : List ℕ) (from : ℕ)
       → IsSpreading c f good lanes delta at reached from
-      → ((s : ℕ) → slice_index_or at s 0 ≡ 0) → (g : ℕ) → IsTouched c f delta g
-      → Contains reached g
+      → ((s : ℕ) → slice_index_or at s 0 ≡ 0) → (g : ℕ) → IsTouched c f delta g → Contains reached g
   spread_touched delta at reached from h idle g is = go (h.touched g is)
     where
       go : (slice_index_or at g 0 ≢ 0) ⊎ Contains reached g → Contains reached g

@@ -1,7 +1,6 @@
 -- The lanes in which two words have a value.
 use Rattle.std.proofs.Common.{◌≡◌, ◌∙◌, ℕ, refl, sym, ap, Bool, true, false, not}
-use Rattle.std.specs.Prelude.{◌&&◌, bit_and, bit_xor}
-use Rattle.std.specs.Bool.{Decides}
+use Rattle.std.specs.{Prelude.{◌&&◌, bit_and, bit_xor}, Bool.Decides}
 use Rattle.std.proofs.lemmas.Bool.{false≢true}
 use Rattle.flat_circuit.specs.Words.{lane}
 use Rattle.flat_circuit.proofs.Public.{lane_and, lane_xor, left_of, right_of, unlike}

@@ -1,30 +1,22 @@
 -- A pin blocks the effect of a fault exactly if the words of its gate say so, in each lane.
 use Rattle.std.proofs.Common.{◌≡◌, ◌≢◌, ◌<◌, ℕ, zero, suc, ◌+◌, refl, sym, ◌∙◌, ap, subst, Bool}
 use Rattle.std.proofs.Common.{true, false, List, [], ◌∷◌, arith, inl, inr, length, ◌⊎◌}
-use Rattle.std.specs.Prelude.{Contains, None, Option, Some, bit_xor, map, option_map}
-use Rattle.std.specs.Prelude.{slice_get, slice_index_or, unwrap_or}
-use Rattle.std.specs.List.{enumerate_from}
-use Rattle.std.proofs.lemmas.Bool.{false≢true}
-use Rattle.std.proofs.lemmas.Option.{slice_get-map}
-use Rattle.bench_net.specs.declared.Kind.{Kind}
-use Rattle.bench_net.specs.Statement.{Name, Statement, Gate}
-use Rattle.bench_net.specs.Scan.{names, signal, gate_of, name_of}
-use Rattle.bench_net.specs.Circuit.{IsWellFormed}
+use Rattle.std.specs.Prelude.{Contains, None, Option, Some, bit_xor, map, option_map, slice_get}
+use Rattle.std.specs.{Prelude.{slice_index_or, unwrap_or}, List.enumerate_from}
+use Rattle.std.proofs.lemmas.{Bool.false≢true, Option.slice_get-map}
+use Rattle.bench_net.specs.{declared.Kind.Kind, Statement.{Name, Statement, Gate}}
+use Rattle.bench_net.specs.{Scan.{names, signal, gate_of, name_of}, Circuit.IsWellFormed}
 use Rattle.bench_net.proofs.Public.{name_of-signal, read_named, signal-name_of}
-use Rattle.list_lemmas.proofs.Members.{Among, among, contained}
-use Rattle.list_lemmas.proofs.Places.{at_place}
+use Rattle.list_lemmas.proofs.{Members.{Among, among, contained}, Places.at_place}
 use Rattle.fault_model.specs.declared.Line.TheVariants as line
-use Rattle.fault_model.specs.Fault.{Fault}
-use Rattle.fault_model.specs.Solution.{Test, Solves, pins_see, sees, under}
+use Rattle.fault_model.specs.{Fault.Fault, Solution.{Test, Solves, pins_see, sees, under}}
 use Rattle.fault_model.specs.Reordered.{HasSameSignals, IsReordered, moved_fault, place}
 use Rattle.fault_model.proofs.Public.{agree, defined_among, same_signals, signal_apart, solved_same}
 use Rattle.fault_model.proofs.Public.{stands_back, stands_there, under_moved, well_reordered}
 use Rattle.flat_circuit.specs.Words.{AreWords, lane, lane_bits, test_of, word_over}
 use Rattle.flat_circuit.proofs.Public.{gate_at, lane_xor, unlike}
-use Rattle.block_sim.specs.Events.{bits_of}
-use Rattle.block_sim.proofs.Public.{gate_named_of_signal_equations}
-use Rattle.blocking_pins.specs.Blocking.{Blocks, controlling}
-use Rattle.blocking_pins.specs.Effects.{AreFaulty, Differs, Stops}
+use Rattle.block_sim.{specs.Events.bits_of, proofs.Public.gate_named_of_signal_equations}
+use Rattle.blocking_pins.specs.{Blocking.{Blocks, controlling}, Effects.{AreFaulty, Differs, Stops}}
 
 same_bit : (x y : Bool) → (x ≡ y) ⊎ (x ≢ y)
 same_bit true true = inl refl
@@ -161,8 +153,7 @@ module _ (c d : List Statement) (well : IsWellFormed c) (is : IsReordered c d)
       same = same;
       enters = enters;
       free_bit = sym (v_is b.read (read_in b.read (at_place b.args pin b.read b.at))) ∙ b.free_bit;
-      faulty_bit = seen_there gate pin (wrong b.read)
-          ∙ (ap (under (Some f) (line.Pin gate pin))
+      faulty_bit = seen_there gate pin (wrong b.read) ∙ (ap (under (Some f) (line.Pin gate pin))
           (sym (w_is b.read (read_in b.read (at_place b.args pin b.read b.at)))) ∙ b.faulty_bit);
     }
       where
@@ -220,8 +211,7 @@ module _ (c d : List Statement) (well : IsWellFormed c) (is : IsReordered c d)
           (contained (names d) name (at_place (names d) (place c d gate) name named_d))
 
       number : signal c name ≡ gate
-      number = signals.apart (signal c name) gate
-          (sym (signals.numbered name named) ∙ own_number)
+      number = signals.apart (signal c name) gate (sym (signals.numbered name named) ∙ own_number)
 
       -- the name that a pin reads
       mapped_at : (xs : List Name) (i x : ℕ) → slice_get (map (signal d) xs) i ≡ Some x

@@ -1,20 +1,13 @@
 -- The numbers of all pins for the faults before one: one fault more.
 use Rattle.std.proofs.Common.{◌≡◌, ◌≢◌, ◌<◌, ◌≤◌, ◌+◌, ◌*◌, ◌-◌, ◌^◌, ◌∙◌, ℕ, suc, refl, sym, ap}
-use Rattle.std.proofs.Common.{subst, true, false, List, length, arith, inl, inr, ◌⊎◌}
-use Rattle.std.specs.Prelude.{◌/◌, ◌%◌, All, Some, min, slice_get, slice_index_or}
-use Rattle.std.specs.Bool.{Decides}
-use Rattle.fault_model.specs.Detection.{DetectsAt}
-use Rattle.fault_model.specs.Fault.{Fault}
-use Rattle.flat_circuit.specs.BlockSpans.{groups}
-use Rattle.flat_circuit.specs.Words.{lane}
-use Rattle.flat_circuit.proofs.Public.{lane_of_zero}
+use Rattle.std.proofs.Common.{subst, true, false, List, length, arith, inl, inr, ◌⊎◌, get_or}
+use Rattle.std.specs.{Prelude.{◌/◌, ◌%◌, All, Some, min, slice_get, slice_index_or}, Bool.Decides}
+use Rattle.std.proofs.lemmas.{Bool.false≢true, Option.{get_or_from_slice_get, slice_get-get_or}}
+use Rattle.fault_model.specs.{Detection.DetectsAt, Fault.Fault}
+use Rattle.flat_circuit.{specs.BlockSpans.groups, specs.Words.lane, proofs.Public.lane_of_zero}
 use Rattle.block_sim.specs.Parts.{Parts}
-use Rattle.std.proofs.Common.{get_or}
-use Rattle.std.proofs.lemmas.Bool.{false≢true}
-use Rattle.std.proofs.lemmas.Option.{get_or_from_slice_get, slice_get-get_or}
 use Rattle.list_lemmas.proofs.Places.{place_within, within_place}
-use Rattle.blocking_pins.specs.declared.gate_pins.GatePin.{GatePin}
-use Rattle.blocking_pins.specs.declared.tally.PinCount.{PinCount}
+use Rattle.blocking_pins.specs.declared.{gate_pins.GatePin.GatePin, tally.PinCount.PinCount}
 use Rattle.blocking_pins.specs.Blocking.{BlocksAt, BlocksFault, BlocksSometimes, HaveCount}
 use Rattle.blocking_pins.specs.Blocking.HaveCount.{counted, none, skipped}
 use Rattle.blocking_pins.specs.Counting.{AreAllAdded, BlocksAtPlace, IsMarked, IsTallyBelow}
@@ -45,8 +38,7 @@ module _ (job : Parts) (pins : List GatePin) (i : ℕ) (f : Fault)
       last = λ n count at. let le = h.last n count at in omega (arith, le);
       faults = λ n at count here there.
           subst (λ m. HaveCount (BlocksSometimes job at.gate at.pin) m count.faults)
-          (let e : suc i ≡ i + 1 = omega arith in e)
-          (skipped (h.faults n at count here there)
+          (let e : suc i ≡ i + 1 = omega arith in e) (skipped (h.faults n at count here there)
           (λ b. not_blocked at.gate at.pin b.0 b.1));
       lanes = λ group n k row at here there lt. (
         λ on. let w = (h.lanes group n k row at here there lt).0 on in
@@ -56,8 +48,7 @@ module _ (job : Parts) (pins : List GatePin) (i : ℕ) (f : Fault)
     }
       where
         go : (group n k : ℕ) (row : List ℕ) (at : GatePin) → slice_get rows group ≡ Some row
-            → slice_get pins n ≡ Some at → k < 128
-            → (w : (fault : ℕ) × (fault < i + 1)
+            → slice_get pins n ≡ Some at → k < 128 → (w : (fault : ℕ) × (fault < i + 1)
             × BlocksFault job at.gate at.pin fault (128 * group + k))
             → (w.0 < i) ⊎ (w.0 ≡ i) → lane (slice_index_or row n 0) k ≡ true
         go group n k row at here there lt w (inl below) =
@@ -68,13 +59,11 @@ module _ (job : Parts) (pins : List GatePin) (i : ℕ) (f : Fault)
 
   -- an undetected fault
   module _ (undetected : (u : ℕ) → ¬ DetectsAt job.circuit job.tests.tests f u)
-      (after : List PinCount) (now : List (List ℕ))
-      (g : AreAllAdded (i + 1)
+      (after : List PinCount) (now : List (List ℕ)) (g : AreAllAdded (i + 1)
       (λ group n k. BlocksAtPlace job.circuit job.tests.tests f pins n (128 * group + k))
       (groups (length job.tests.tests)) counts after rows now) where
     blocks_own : (n u : ℕ) (at : GatePin) → slice_get pins n ≡ Some at
-        → BlocksAtPlace job.circuit job.tests.tests f pins n u
-        → BlocksFault job at.gate at.pin i u
+        → BlocksAtPlace job.circuit job.tests.tests f pins n u → BlocksFault job at.gate at.pin i u
     blocks_own n u at here b =
         let is : b.0 ≡ at = same_some b.0 at (sym b.1 ∙ here) in (
           f,
@@ -84,8 +73,7 @@ module _ (job : Parts) (pins : List GatePin) (i : ℕ) (f : Fault)
         )
 
     own_blocks : (n u : ℕ) (at : GatePin) → slice_get pins n ≡ Some at
-        → BlocksFault job at.gate at.pin i u
-        → BlocksAtPlace job.circuit job.tests.tests f pins n u
+        → BlocksFault job at.gate at.pin i u → BlocksAtPlace job.circuit job.tests.tests f pins n u
     own_blocks n u at here b =
         let is : b.0 ≡ f = same_some b.0 f (sym b.1 ∙ listed) in (
           at,
@@ -104,8 +92,7 @@ module _ (job : Parts) (pins : List GatePin) (i : ℕ) (f : Fault)
     at_group : (n : ℕ) (at : GatePin) → slice_get pins n ≡ Some at
         → BlocksSometimes job at.gate at.pin i → IsBlockedAt n
     at_group n at here b =
-        let lt : b.0 < length job.tests.tests =
-        place_within job.tests.tests b.0 b.1.3.0 b.1.3.1 in
+        let lt : b.0 < length job.tests.tests = place_within job.tests.tests b.0 b.1.3.0 b.1.3.1 in
         let whole : 128 * (b.0 / 128) + b.0 % 128 ≡ b.0 = omega arith in
         let low : b.0 % 128 < 128 = omega arith in
         let within : b.0 / 128 < (length job.tests.tests + 127) / 128 = omega (arith, lt) in (
@@ -195,8 +182,7 @@ module _ (job : Parts) (pins : List GatePin) (i : ℕ) (f : Fault)
 
     to : (n group k : ℕ) (row : List ℕ) (at : GatePin) → slice_get pins n ≡ Some at
         → (lane (slice_index_or row n 0) k ≡ true → Before i at group k)
-        → (lane (slice_index_or row n 0) k ≡ true) ⊎ Added n group k
-        → Before (i + 1) at group k
+        → (lane (slice_index_or row n 0) k ≡ true) ⊎ Added n group k → Before (i + 1) at group k
     to n group k row at here old (inl on) = let w = old on in
         (w.0, (let low = w.1 in omega (arith, low)), w.2)
     to n group k row at here old (inr b) = (
@@ -253,8 +239,7 @@ tally_none job pins counts rows count room fresh zero = record {
   long = λ group row at. (zero_row group row at).0;
   last = λ i one at. let e = ap (λ (x : PinCount). x.last) (zero_count i one at) in
       omega (arith, e);
-  faults = λ i at one here there.
-      subst (HaveCount (BlocksSometimes job at.gate at.pin) 0)
+  faults = λ i at one here there. subst (HaveCount (BlocksSometimes job at.gate at.pin) 0)
       (sym (ap (λ (x : PinCount). x.faults) (zero_count i one there))) none;
   lanes = λ group i k row at there here lt. (
     λ on. absurd (false≢true (sym (lane_of_zero (slice_index_or row i 0) k
@@ -273,8 +258,7 @@ tally_none job pins counts rows count room fresh zero = record {
 
     zero_row : (group : ℕ) (row : List ℕ) → slice_get rows group ≡ Some row
         → (length row ≡ length pins) × All (λ word. word ≡ 0) row
-    zero_row group row at =
-        subst (λ r. (length r ≡ length pins) × All (λ word. word ≡ 0) r)
+    zero_row group row at = subst (λ r. (length r ≡ length pins) × All (λ word. word ≡ 0) r)
         (get_or_from_slice_get rows group row row at)
         (zero group row (place_within rows group row at))
 

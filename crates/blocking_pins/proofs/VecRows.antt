@@ -1,11 +1,9 @@
 -- Lists in a list.
-use Rattle.std.proofs.Common.{◌≡◌, ◌<◌, ◌∙◌, ℕ, ap, subst, sym, arith, List, length, map, set}
-use Rattle.std.proofs.Common.{Vec, Global, drop, get_or, [], ◌∷◌, ◌++◌}
+use Rattle.std.proofs.Common.{◌≡◌, ◌<◌, ◌∙◌, ℕ, ap, subst, sym, arith, List, length, map, set, Vec}
+use Rattle.std.{proofs.Common.{Global, drop, get_or, [], ◌∷◌, ◌++◌}, specs.Vec.with_items}
 use Rattle.std.specs.Prelude.{All, Contains, Some, option_map, slice_get}
-use Rattle.std.specs.Vec.{with_items}
 use Rattle.std.proofs.lemmas.List.{length-map, map-set, map_push, take-append-le, take_all}
-use Rattle.std.proofs.lemmas.List.Elements.{All-append}
-use Rattle.std.proofs.lemmas.Option.{slice_get_read, slice_get-map}
+use Rattle.std.proofs.lemmas.{List.Elements.All-append, Option.{slice_get_read, slice_get-map}}
 
 abbrev pub rows_of : List (Vec ℕ Global) → List (List ℕ)
 rows_of rows = map (λ row. row.items) rows
@@ -15,8 +13,7 @@ pub row_at : (rows : List (Vec ℕ Global)) (n i : ℕ) (v : Vec ℕ Global) →
 row_at rows n i v count lt e =
     let long = length-map rows (λ (row : Vec ℕ Global). row.items) in
     slice_get-map (λ (row : Vec ℕ Global). row.items) rows i
-    ∙ ap (option_map (λ (row : Vec ℕ Global). row.items))
-    (slice_get_read rows n i v
+    ∙ ap (option_map (λ (row : Vec ℕ Global). row.items)) (slice_get_read rows n i v
     (let same : n ≡ length rows = omega (arith, long, count) in same) lt e)
 
 -- what is true of all elements is true of one

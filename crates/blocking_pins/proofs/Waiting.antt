@@ -1,9 +1,8 @@
 -- Signals that begin to wait, one after the other.
-use Rattle.std.proofs.Common.{◌≡◌, ◌≢◌, ◌<◌, ◌≤◌, ℕ, ◌+◌, refl, sym, ◌∙◌, ap, subst}
-use Rattle.std.proofs.Common.{List, length, set, arith, inl, inr, ◌⊎◌}
+use Rattle.std.proofs.Common.{◌≡◌, ◌≢◌, ◌<◌, ◌≤◌, ℕ, ◌+◌, refl, sym, ◌∙◌, ap, subst, List, length}
+use Rattle.std.proofs.{Common.{set, arith, inl, inr, ◌⊎◌}, lemmas.List.Elements.Contains-get_or}
 use Rattle.std.specs.Prelude.{All, Contains, Some, slice_get, slice_index_or}
 use Rattle.std.proofs.lemmas.List.{get_or-set_same, get_or-set_other, get_or_default}
-use Rattle.std.proofs.lemmas.List.Elements.{Contains-get_or}
 use Rattle.std.proofs.lemmas.Bool.{cases_eq}
 use Rattle.flat_circuit.proofs.Public.{at_end}
 
@@ -14,10 +13,7 @@ pub record AreAddedTo (items : List ℕ) (i : ℕ) (before now : List ℕ) : Typ
       ⊎ (Contains items s × (slice_index_or now s 0 ≢ 0))
 
 pub added_start : (items before : List ℕ) → AreAddedTo items 0 before before
-added_start items before = record {
-  all = λ j lt. absurd (omega (arith, lt));
-  only = λ s. inl refl;
-}
+added_start items before = record { all = λ j lt. absurd (omega (arith, lt)); only = λ s. inl refl }
 
 module _ (items : List ℕ) (i : ℕ) (before now : List ℕ) (lt : i < length items)
     (h : AreAddedTo items i before now) (within : slice_index_or items i 0 < length now) where

@@ -1,11 +1,8 @@
 -- Counts of the tests that detect the classes of a list, from what a run keeps of them.
-use Rattle.std.proofs.Common.{◌<◌, ℕ, List, All, length}
-use Rattle.std.specs.Prelude.{nat_lt}
+use Rattle.std.{proofs.Common.{◌<◌, ℕ, List, All, length}, specs.Prelude.nat_lt}
 use Rattle.block_sim.specs.Parts.{BelongTogether, Parts}
-use Rattle.region_runs.proofs.Public.{listed_class}
-use Rattle.region_runs.specs.Tasks.{AreKept, task_of}
-use Rattle.n_detect.proofs.Public.{count_kept, fault_count}
-use Rattle.n_detect.specs.HitCounts.{IsHitCount}
+use Rattle.region_runs.{proofs.Public.listed_class, specs.Tasks.{AreKept, task_of}}
+use Rattle.n_detect.{proofs.Public.{count_kept, fault_count}, specs.HitCounts.IsHitCount}
 use Rattle.class_lists.specs.Lists.{AreClassCounts}
 
 -- what a run for counts keeps are the counts of the classes

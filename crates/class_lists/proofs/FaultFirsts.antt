@@ -1,14 +1,10 @@
 -- The first tests of all faults, from those of all classes.
 use Rattle.std.proofs.Common.{◌≡◌, ◌<◌, ◌∙◌, ℕ, None, List, Option, All, ap, arith, get_or, length}
-use Rattle.std.proofs.Common.{map, refl, subst}
-use Rattle.std.specs.Prelude.{Some, slice_get}
-use Rattle.std.proofs.lemmas.List.{length-map}
-use Rattle.std.proofs.lemmas.Option.{get_or_from_slice_get, slice_get-get_or}
+use Rattle.std.{proofs.Common.{map, refl, subst}, specs.Prelude.{Some, slice_get}}
+use Rattle.std.proofs.lemmas.{List.length-map, Option.{get_or_from_slice_get, slice_get-get_or}}
 use Rattle.list_lemmas.proofs.Places.{from_mapped, within_place}
-use Rattle.block_sim.specs.First.{IsFirst}
-use Rattle.block_sim.specs.Parts.{BelongTogether, Parts}
-use Rattle.workers.proofs.Public.{class_in}
-use Rattle.workers.specs.Settling.{shape_for}
+use Rattle.block_sim.specs.{First.IsFirst, Parts.{BelongTogether, Parts}}
+use Rattle.workers.{proofs.Public.class_in, specs.Settling.shape_for}
 use Rattle.workers.specs.Verdict.{AreClassFirsts, AreFirsts}
 
 module _ (job : Parts) (all : List ℕ) (b : BelongTogether job)

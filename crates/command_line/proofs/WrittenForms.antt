@@ -5,19 +5,14 @@ use Rattle.byte_output.specs.Output.{Output}
 use Rattle.bench_net.specs.Refusal.{IsAccepted}
 use Rattle.fault_model.specs.declared.Model.{Model}
 use Rattle.block_sim.specs.Parts.{Parts}
-use Rattle.job_loading.specs.declared.fault.SimFault.{SimFault}
+use Rattle.job_loading.specs.{declared.fault.SimFault.SimFault, Jobs.IsJobOf, Sums.sum_text}
 use Rattle.job_loading.specs.declared.fault.SimFault.TheVariants as fault
-use Rattle.job_loading.specs.Jobs.{IsJobOf}
-use Rattle.job_loading.specs.Sums.{sum_text}
-use Rattle.report.specs.EndToEnd.{WritesOneOf}
-use Rattle.report.proofs.Public.{written_as}
-use Rattle.analysis_reports.specs.declared.compacted.KeptCount.{KeptCount}
-use Rattle.analysis_reports.specs.declared.compacted.KeptLayout.{KeptLayout}
+use Rattle.report.{specs.EndToEnd.WritesOneOf, proofs.Public.written_as}
+use Rattle.analysis_reports.specs.declared.compacted.{KeptCount.KeptCount, KeptLayout.KeptLayout}
 use Rattle.analysis_reports.specs.Compacted.{GivesOneOf, IsKeptTextOfJob}
-use Rattle.command_line.specs.declared.form.Form.{Form}
-use Rattle.command_line.specs.declared.form_run.Sums.{Sums}
-use Rattle.command_line.specs.declared.form.Form.TheVariants as form
+use Rattle.command_line.specs.declared.{form.Form.Form, form_run.Sums.Sums}
 use Rattle.command_line.specs.Form.{IsFormOf, IsFormOfJob, IsKeptOfJob, NeedsSums}
+use Rattle.command_line.specs.declared.form.Form.TheVariants as form
 
 -- sums matter only to an output that has them
 pub same_form : (job : Parts) (b t bench tests : List ℕ) (form : Form) (bytes : List ℕ)
@@ -52,8 +47,7 @@ pub written_form : (m : Model) (bench b t : List ℕ) (text : Option (List ℕ))
     → IfSome text (λ x. WritesOneOf (IsFormOf m bench x form) r old new)
 written_form m bench b t None form job r old new is one other w = is
 written_form m bench b t (Some text) form job r old new is one other w =
-    written_as (IsFormOfJob job b t form) (IsFormOf m bench text form) r old new
-    (λ bytes of_job. (
+    written_as (IsFormOfJob job b t form) (IsFormOf m bench text form) r old new (λ bytes of_job. (
       job,
       is,
       same_form job b t (sum_text bench) (sum_text text) form bytes one other of_job,

@@ -1,26 +1,19 @@
 -- The tests that detect each class, by the words of the class.
-use Rattle.std.proofs.Common.{◌≡◌, ◌+◌, ◌*◌, ◌/◌, ◌%◌, ◌<◌, ◌≤◌, ◌∙◌, ◌⊎◌, ◌==◌, inl, inr, ℕ, List, []}
-use Rattle.std.proofs.Common.{Bool, true, false, ap, arith, get_or, length, map, not, refl, subst, sym}
-use Rattle.std.specs.List.{list_any}
-use Rattle.std.proofs.lemmas.Bool.{cases_lt, eqb-true, false≢true}
-use Rattle.std.proofs.lemmas.List.{get_or_past}
-use Rattle.std.proofs.lemmas.List.Folds.{list_any_at}
-use Rattle.flat_circuit.proofs.Public.{lane_zero}
+use Rattle.std.proofs.Common.{◌≡◌, ◌+◌, ◌*◌, ◌/◌, ◌%◌, ◌<◌, ◌≤◌, ◌∙◌, ◌⊎◌, ◌==◌, inl, inr, ℕ, List}
+use Rattle.std.proofs.Common.{[], Bool, true, false, ap, arith, get_or, length, map, not, refl}
+use Rattle.std.{proofs.Common.{subst, sym}, specs.List.list_any, specs.Bool.Decides}
+use Rattle.std.proofs.lemmas.{Bool.{cases_lt, eqb-true, false≢true}, List.Folds.list_any_at}
+use Rattle.std.proofs.lemmas.List.{get_or_past, get_or-map, length-map}
 use Rattle.std.specs.Prelude.{Option, Some, slice_get, slice_index, unwrap_or}
-use Rattle.std.specs.Bool.{Decides}
 use Rattle.std.specs.declared.vec.Vec.{Vec}
-use Rattle.std.proofs.lemmas.List.{get_or-map, length-map}
 use Rattle.std.proofs.lemmas.Option.{get_or_from_slice_get, slice_get-get_or, slice_get_within}
+use Rattle.flat_circuit.{proofs.Public.lane_zero, specs.BlockSpans.groups, specs.Words.lane}
 use Rattle.list_lemmas.proofs.Places.{within_place}
-use Rattle.fault_model.specs.Collapse.{representatives}
-use Rattle.fault_model.specs.Detection.{DetectsAt}
-use Rattle.fault_model.specs.Fault.{Fault, faults}
-use Rattle.flat_circuit.specs.BlockSpans.{groups}
-use Rattle.flat_circuit.specs.Words.{lane}
+use Rattle.fault_model.specs.{Collapse.representatives, Detection.DetectsAt, Fault.{Fault, faults}}
 use Rattle.block_sim.specs.Parts.{BelongTogether, Parts}
 use Rattle.n_detect.specs.ClassTests.{AreClassTests}
-use Rattle.compaction.specs.Detections.{DetectionTable, HasGroups, detects_by, is_detected, words_of}
-use Rattle.compaction.specs.Steepest.{DetectsClasses}
+use Rattle.compaction.specs.Detections.{DetectionTable, HasGroups, detects_by, is_detected}
+use Rattle.compaction.specs.{Detections.words_of, Steepest.DetectsClasses}
 
 -- the words of the class at a position
 row_read : {Z : Type 0} (rows : List (Vec ℕ Z)) (position : ℕ) (row : Vec ℕ Z)
@@ -31,8 +24,7 @@ row_read rows position row at =
 
 -- those of a class
 words_read : {Z : Type 0} (positions : List ℕ) (rows : List (Vec ℕ Z)) (class : ℕ)
-    → class < length positions
-    → get_or (words_of positions rows) class []
+    → class < length positions → get_or (words_of positions rows) class []
     ≡ get_or (map (λ v. v.items) rows) (slice_index positions class) []
 words_read positions rows class lt =
     get_or-map (λ p. get_or (map (λ v. v.items) rows) p []) positions class 0 [] lt
@@ -92,8 +84,7 @@ module _ {Z : Type 0} (job : Parts) (positions : List ℕ) (rows : List (Vec ℕ
       subst (λ f. Decides (lane word.0 k) (DetectsAt c tests f t)) same
       (subst (λ n. Decides (lane word.0 k) (DetectsAt c tests lanes.0 n)) number own) in
       let read : get_or (get_or (words_of positions rows) class []) (t / 128) 0 ≡ word.0 =
-      ap (λ xs. get_or xs (t / 128) 0)
-      (words_read positions rows class (omega (arith, low, count))
+      ap (λ xs. get_or xs (t / 128) 0) (words_read positions rows class (omega (arith, low, count))
       ∙ row_read rows (slice_index positions class) row.0 row.1)
       ∙ get_or_from_slice_get row.0.items (t / 128) word.0 0 word.1 in
       subst (λ w. Decides (lane w k) (DetectsAt c tests r t)) (sym read) of_r
@@ -121,5 +112,4 @@ no_lane row none group k = go (cases_lt group (length row))
 
 pub undetected : (table : DetectionTable) (class t : ℕ) → is_detected table class ≡ false
     → detects_by table class t ≡ false
-undetected table class t none =
-    no_lane (get_or table.words class []) none (t / 128) (t % 128)
+undetected table class t none = no_lane (get_or table.words class []) none (t / 128) (t % 128)

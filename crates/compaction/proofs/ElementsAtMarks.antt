@@ -1,10 +1,8 @@
 -- The elements at marked places.
 use Rattle.std.proofs.Common.{◌≡◌, ◌<◌, ◌≤◌, ◌+◌, ◌∙◌, ℕ, zero, suc, Bool, true, false, List, []}
 use Rattle.std.proofs.Common.{◌∷◌, ◌++◌, length, take, ap, refl, sym, arith, add-one, get_or, inl}
-use Rattle.std.proofs.Common.{inr, ◌⊎◌, cond, count_by}
-use Rattle.std.proofs.lemmas.List.Sums.{sum_by-cons}
-use Rattle.std.proofs.lemmas.Bool.{cases_lt}
-use Rattle.std.specs.Prelude.{Some, None, slice_get}
+use Rattle.std.proofs.{Common.{inr, ◌⊎◌, cond, count_by}, lemmas.List.Sums.sum_by-cons}
+use Rattle.std.{proofs.lemmas.Bool.cases_lt, specs.Prelude.{Some, None, slice_get}}
 use Rattle.compaction.specs.Compaction.{IsSublist, at_marks}
 
 -- the number of marked places
@@ -211,5 +209,4 @@ as_many_marked (mark ∷ marks) [] (y ∷ ys) e = absurd (omega (arith, e))
 as_many_marked (mark ∷ marks) (x ∷ xs) [] e = absurd (omega (arith, e))
 as_many_marked (true ∷ marks) (x ∷ xs) (y ∷ ys) e =
     ap suc (as_many_marked marks xs ys (omega (arith, e)))
-as_many_marked (false ∷ marks) (x ∷ xs) (y ∷ ys) e =
-    as_many_marked marks xs ys (omega (arith, e))
+as_many_marked (false ∷ marks) (x ∷ xs) (y ∷ ys) e = as_many_marked marks xs ys (omega (arith, e))

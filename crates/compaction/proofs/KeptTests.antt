@@ -1,37 +1,31 @@
 -- The faults that the kept tests detect, and the reason why each test is kept.
 use Rattle.std.proofs.Common.{◌≡◌, ◌<◌, ◌≤◌, ◌+◌, ◌-◌, ◌*◌, ◌∙◌, ℕ, zero, suc, Bool, true, false}
 use Rattle.std.proofs.Common.{List, ◌∷◌, [], length, ap, refl, sym, subst, arith, add-one, inl, inr}
-use Rattle.std.proofs.Common.{◌⊎◌, get_or, take}
-use Rattle.std.specs.Prelude.{◌||◌, Contains, IfOk, Option, Some, None, Result, Ok, Err}
-use Rattle.std.specs.Prelude.{slice_get}
-use Rattle.std.specs.List.{ReversedBelow}
-use Rattle.std.proofs.lemmas.Bool.{cases_lt, eqb-true, eq-eqb}
-use Rattle.std.proofs.lemmas.List.{get_or_past}
+use Rattle.std.{proofs.Common.{◌⊎◌, get_or, take}, specs.List.ReversedBelow}
+use Rattle.std.specs.Prelude.{◌||◌, Contains, IfOk, Option, Some, None, Result, Ok, Err, slice_get}
+use Rattle.std.proofs.lemmas.{Bool.{cases_lt, eqb-true, eq-eqb}, List.get_or_past}
 use Rattle.std.proofs.lemmas.List.Folds.{list_any_more}
 use Rattle.std.proofs.lemmas.Option.{get_or_from_slice_get, slice_get-get_or, slice_get_within}
 use Rattle.bench_net.specs.Statement.{Statement}
 use Rattle.list_lemmas.proofs.Members.{Among, among, contained, some_passes}
 use Rattle.list_lemmas.proofs.Places.{at_place, place_within, placed, within_place}
-use Rattle.fault_model.specs.declared.Model.{Model}
+use Rattle.fault_model.specs.{declared.Model.Model, Fault.{Fault, faults}, Solution.{Test, Detects}}
 use Rattle.fault_model.specs.declared.Model.TheVariants.{StuckAt, Transition, TransitionPairs}
-use Rattle.fault_model.specs.Fault.{Fault, faults}
-use Rattle.fault_model.specs.Solution.{Test, Detects}
-use Rattle.fault_model.specs.declared.Line.{Line}
+use Rattle.fault_model.{specs.declared.Line.Line, proofs.Public.listed_model}
 use Rattle.fault_model.specs.Detection.{DetectsAt, IsInitialized, IsSecondOfPair, LooksBack}
-use Rattle.fault_model.proofs.Public.{listed_model}
 use Rattle.patterns.specs.Least.{below}
 use Rattle.block_sim.specs.First.{IsFirst}
 use Rattle.workers.specs.Verdict.{AreFirsts}
 use Rattle.compaction.specs.Compaction.{AreEarly, Covers, IsFirstForSome, IsFirstOrBefore}
 use Rattle.compaction.specs.Compaction.{IsLastForSome, IsLastOrBefore, IsNeeded, IsNumbered}
 use Rattle.compaction.specs.Compaction.{PassesTwice, at_marks, finds, is_first, row_of}
-use Rattle.compaction.specs.Marks.{AreFinding, AreLast, AreLastOf, AreLastPairsOf}
-use Rattle.compaction.specs.Marks.{AreLasting, AreWithBefore}
-use Rattle.compaction.proofs.ElementsAtMarks.{ComesFrom, both_counted, both_inner, both_marked}
-use Rattle.compaction.proofs.ElementsAtMarks.{both_marks}
-use Rattle.compaction.proofs.ElementsAtMarks.{comes_from, earlier_place, marked_at, marked_twice}
-use Rattle.compaction.proofs.ElementsAtMarks.{ones, ones_counted, ones_next, ones_stay}
+use Rattle.compaction.specs.Marks.{AreFinding, AreLast, AreLastOf, AreLastPairsOf, AreLasting}
+use Rattle.compaction.{specs.Marks.AreWithBefore, proofs.ElementsAtMarks.ones_next}
+use Rattle.compaction.proofs.ElementsAtMarks.{ones_stay, ComesFrom, both_counted, both_inner}
+use Rattle.compaction.proofs.ElementsAtMarks.{both_marked, both_marks, comes_from, earlier_place}
+use Rattle.compaction.proofs.ElementsAtMarks.{marked_at, marked_twice, ones, ones_counted}
 use Rattle.compaction.proofs.ReversedLists.{reversed_back, reversed_to}
+pub use Rattle.std.proofs.lemmas.Bool.{or_right, or_left, or_cases}
 
 -- the marked tests detect some fault, and one of them detects each fault that a test detects
 pub record AreDetectingMarks (m : Model) (c : List Statement) (tests : List Test)
@@ -211,13 +205,7 @@ pub numbered_stuck : (c : List Statement) (tests kept : List Test) (marks : List
     → AreLastOf c (at_marks marks tests) kept given numbers
     → IsNumbered StuckAt c tests kept numbers
 numbered_stuck c tests kept marks given numbers are numbered last_of = (
-  record {
-    marks = both;
-    count = all;
-    rows = rows;
-    covers = covers;
-    needed = needed;
-  },
+  record { marks = both; count = all; rows = rows; covers = covers; needed = needed },
   last_of.1 ∙ (ap (at_marks last_are.rows.0) numbered
       ∙ marked_twice marks last_are.rows.0 (below (length tests))),
 )
@@ -252,17 +240,6 @@ numbered_stuck c tests kept marks given numbers are numbered last_of = (
         )
 
 -- ---- transition faults: with each test the one before it
-
-pub or_cases : (a b : Bool) → (a || b) ≡ true → (a ≡ true) ⊎ (b ≡ true)
-or_cases true b e = inl refl
-or_cases false b e = inr e
-
-pub or_left : (a b : Bool) → a ≡ true → (a || b) ≡ true
-or_left a b e = rw (e) refl
-
-pub or_right : (a b : Bool) → b ≡ true → (a || b) ≡ true
-or_right true b e = refl
-or_right false b e = e
 
 on_where : (found marks : List Bool) → AreWithBefore found marks → (t : ℕ) → t < length found
     → (get_or found t false || get_or found (t + 1) false) ≡ true → slice_get marks t ≡ Some true
@@ -338,8 +315,7 @@ covers_before m c tests found marks are before looks_back = covers
                 detects.0,
                 own,
                 detects.2,
-                subst
-                    (λ x. LooksBack c (at_marks marks tests) x f.line f.stuck (suc k))
+                subst (λ x. LooksBack c (at_marks marks tests) x f.line f.stuck (suc k))
                     (sym model) back,
               ),
             )
@@ -384,10 +360,7 @@ early_marks : (m : Model) (c : List Statement) (tests : List Test) (found marks 
     → AreFinding m c tests found → AreWithBefore found marks → AreEarly m c tests marks
 early_marks m c tests found marks are before = (
   before.count ∙ are.count,
-  λ t. (
-    λ mark. there t (found_or_next found marks before t mark),
-    λ first. back t first,
-  ),
+  λ t. (λ mark. there t (found_or_next found marks before t mark), λ first. back t first),
 )
   where
     there : (t : ℕ) → (slice_get found t ≡ Some true) ⊎ (slice_get found (t + 1) ≡ Some true)
@@ -396,8 +369,7 @@ early_marks m c tests found marks are before = (
     there t (inr h) = inr (are.first (t + 1) h)
 
     back : (t : ℕ) → IsFirstOrBefore m c tests t → slice_get marks t ≡ Some true
-    back t (inl first) =
-        itself found marks before t (first_is_marked m c tests found t are first)
+    back t (inl first) = itself found marks before t (first_is_marked m c tests found t are first)
     back t (inr first) =
         the_one_before found marks before t (subst (λ k. slice_get found k ≡ Some true) (add-one t)
         (first_is_marked m c tests found (t + 1) are first))
@@ -562,11 +534,9 @@ covers_pass m c tests found marks either are before =
 twice_needed : (m : Model) (c : List Statement) (tests kept : List Test) (t k : ℕ)
     → (m ≡ Transition) ⊎ (m ≡ TransitionPairs) → PassesTwice m c tests t
     → IsNeeded m c tests kept t k
-twice_needed m c tests kept t k (inl e) twice =
-    subst (λ x. IsNeeded x c tests kept t k) (sym e)
+twice_needed m c tests kept t k (inl e) twice = subst (λ x. IsNeeded x c tests kept t k) (sym e)
     (subst (λ x. PassesTwice x c tests t) e twice)
-twice_needed m c tests kept t k (inr e) twice =
-    subst (λ x. IsNeeded x c tests kept t k) (sym e)
+twice_needed m c tests kept t k (inr e) twice = subst (λ x. IsNeeded x c tests kept t k) (sym e)
     (subst (λ x. PassesTwice x c tests t) e twice)
 
 pub pairs_numbered : (m : Model) (c : List Statement) (tests rows kept : List Test)
@@ -604,8 +574,7 @@ pairs_numbered m c tests rows kept found marks given numbers either are before i
         (subst (λ xs. DetectsAt c xs f early.0) (sym is) early.1) in
         subst (λ xs. (k : ℕ) × DetectsAt c xs f k) (sym pairs.4) late
 
-    needed : (t : ℕ) → slice_get both t ≡ Some true
-        → IsNeeded m c tests kept t (row_of both t)
+    needed : (t : ℕ) → slice_get both t ≡ Some true → IsNeeded m c tests kept t (row_of both t)
     needed t mark =
         let early = both_marked marks inner t mark in
         let row : slice_get inner (row_of marks t) ≡ Some true =

@@ -1,39 +1,25 @@
 -- The last tests of the classes of a job.
 use Rattle.std.proofs.Common.{◌≡◌, ◌<◌, ◌≤◌, ◌+◌, ◌-◌, ◌*◌, ◌^◌, ◌==◌, ◌∙◌, ◌⊎◌, ℕ, suc, Bool, true}
-use Rattle.std.proofs.Common.{false, List, ap, arith, get_or, inl, inr, length, refl}
-use Rattle.std.proofs.Common.{subst, sym}
-use Rattle.std.specs.Int.{bit_at}
-use Rattle.std.specs.Prelude.{◌||◌, Contains, None, Option, Some, slice_get, slice_index}
-use Rattle.std.specs.Prelude.{slice_index_or, unwrap_or}
-use Rattle.std.proofs.lemmas.Bool.{cases_lt, false≢true}
-use Rattle.std.proofs.Math.Nat.{pow-succ'}
+use Rattle.std.proofs.Common.{false, List, ap, arith, get_or, inl, inr, length, refl, subst, sym}
+use Rattle.std.{specs.Int.bit_at, specs.Prelude.{slice_get, slice_index}, proofs.Math.Nat.pow-succ'}
+use Rattle.std.specs.Prelude.{slice_index_or, unwrap_or, ◌||◌, Contains, None, Option, Some}
+use Rattle.std.proofs.lemmas.Bool.{cases_lt, false≢true, cases_Bool as bit_cases}
 use Rattle.std.proofs.lemmas.Nat.Bits.{bit_at_above, bit_at_cat_high}
 use Rattle.std.proofs.lemmas.Option.{get_or_from_slice_get, slice_get-get_or, slice_get_within}
 use Rattle.list_lemmas.proofs.Places.{place_within, within_place}
 use Rattle.counting_sort.specs.SortedPlaces.{ArePositions}
-use Rattle.fault_model.specs.Collapse.{IsClassOf}
-use Rattle.fault_model.specs.Detection.{DetectsAt}
-use Rattle.fault_model.specs.Collapse.{representatives}
-use Rattle.fault_model.specs.Fault.{Fault, faults}
-use Rattle.fault_model.proofs.Public.{own_class}
+use Rattle.fault_model.specs.{Collapse.{IsClassOf, representatives}, Detection.DetectsAt}
+use Rattle.fault_model.{specs.Fault.{Fault, faults}, proofs.Public.own_class}
 use Rattle.patterns.specs.Tests.{blocks}
-use Rattle.block_sim.specs.Parts.{BelongTogether, Parts}
-use Rattle.block_sim.proofs.Public.{which_detect}
-use Rattle.flat_circuit.specs.Words.{lane}
-use Rattle.flat_circuit.proofs.Public.{lane_zero, representative_at}
+use Rattle.block_sim.{specs.Parts.{BelongTogether, Parts}, proofs.Public.which_detect}
+use Rattle.flat_circuit.{specs.Words.lane, proofs.Public.{lane_zero, representative_at}}
 use Rattle.region_sim.specs.Goals.{AreHits, TellHits}
-use Rattle.region_runs.specs.Tasks.{AreKept, task_of}
-use Rattle.compaction.specs.Compaction.{IsLastForSome, is_first}
-use Rattle.compaction.specs.LastHits.{IsLastHit}
-use Rattle.compaction.specs.LastHitLaws.{last_unchanged}
+use Rattle.region_runs.{specs.Tasks.{AreKept, task_of}, proofs.Public.some_hits as class_hits}
+use Rattle.compaction.specs.{Compaction.{IsLastForSome, is_first}, LastHits.IsLastHit}
+use Rattle.compaction.{specs.LastHitLaws.last_unchanged, proofs.DetectedClasses.class_count}
 use Rattle.compaction.specs.Marks.{AreLastAt, AreLasting, IsLast, IsLastOfClass}
-use Rattle.compaction.proofs.DetectedClasses.{class_count}
 use Rattle.compaction.proofs.KeptTests.{first_own, or_cases, or_left, or_right, own_first}
 use Rattle.compaction.proofs.OrderedTests.{as_class, as_fault, class_of}
-
-bit_cases : (b : Bool) → (b ≡ true) ⊎ (b ≡ false)
-bit_cases true = inl refl
-bit_cases false = inr refl
 
 -- the last tests of the first classes of a job are marked
 pub record AreLastMarks (job : Parts) (classes : ℕ) (marks : List Bool) : Type 0 where
@@ -106,16 +92,6 @@ module _ (hits : ℕ → Bool) (first low from to word : ℕ) (le : low ≤ from
           absurd (false≢true (sym (ap (λ w. lane w j) none ∙ lane_zero j) ∙ lit))
 
 -- ---- the last test of a class
-
--- a class has hits
-class_hits : (job : Parts) → BelongTogether job → (class : ℕ)
-    → class < length job.classes.representative → (hits : ℕ → Bool) × AreHits job class hits
-class_hits job b class lt =
-    let k = within_place job.classes.representative class lt in
-    let r = representative_at job.list.model job.circuit job.classes class k.0 b.classes k.1 in
-    let w = which_detect job.list.model job.circuit job.tests.tests class r.0
-    b.circuit.well_formed r.2 in
-    (w.0, (r.0, r.2, w.1))
 
 -- the last hit of all tests is the last test
 last_is : (job : Parts) (class : ℕ) (hits : ℕ → Bool) (h : AreHits job class hits)
@@ -203,8 +179,7 @@ marks_more job class old new last are is same each = record {
           λ t e.
               let within = last_within job class last t is e in
               each t (omega (arith, within, are.count))
-              ∙ or_right (get_or old t false) (is_first t last)
-              (ap (is_first t) e ∙ first_own t),
+              ∙ or_right (get_or old t false) (is_first t last) (ap (is_first t) e ∙ first_own t),
         )
 
 pub marks_lasting : (job : Parts) (classes : ℕ) (marks : List Bool) → BelongTogether job
@@ -273,13 +248,11 @@ last_later start t new is hits own low mid high le up few same found =
 
 -- and if there is no later hit, the one before is
 pub last_before : (start : ℕ) (old : Option ℕ) (hits own : ℕ → Bool) (low mid high : ℕ)
-    → low ≤ start + mid → mid ≤ high
-    → ((t : ℕ) → mid ≤ t → t < high → own t ≡ hits (start + t))
+    → low ≤ start + mid → mid ≤ high → ((t : ℕ) → mid ≤ t → t < high → own t ≡ hits (start + t))
     → IsLastHit hits low (start + mid) old → IsLastHit own mid high None
     → IsLastHit hits low (start + high) old
 last_before start old hits own low mid high le up same was none =
-    last_unchanged old hits low (start + mid) (start + high) (omega (arith, up))
-    (λ t above within.
+    last_unchanged old hits low (start + mid) (start + high) (omega (arith, up)) (λ t above within.
     let back : start + (t - start) ≡ t = omega (arith, above) in
     let mine : mid ≤ t - start = omega (arith, above) in
     let ends : t - start < high = omega (arith, above, within) in

@@ -1,37 +1,27 @@
 -- The faults that tests in steepest order detect.
 use Rattle.std.proofs.Common.{◌≡◌, ◌+◌, ◌-◌, ◌*◌, ◌/◌, ◌<◌, ◌≤◌, ◌∙◌, ◌∷◌, [], ℕ, zero, suc, Bool}
 use Rattle.std.proofs.Common.{List, ap, arith, eqb, false, get_or, inl, inr, length, refl, subst}
-use Rattle.std.proofs.Common.{sym, take, true}
-use Rattle.std.specs.Prelude.{◌≢◌, All, Contains, None, Some, flat_map, map, option_map}
-use Rattle.std.specs.Prelude.{slice_get, unwrap_or}
-use Rattle.std.specs.List.{list_any}
-use Rattle.std.proofs.lemmas.Bool.{eq-eqb, eqb-true}
+use Rattle.std.{proofs.Common.{sym, take, true}, specs.Prelude.unwrap_or, specs.List.list_any}
+use Rattle.std.specs.Prelude.{◌≢◌, All, Contains, None, Some, flat_map, map, option_map, slice_get}
+use Rattle.std.proofs.lemmas.{Bool.{eq-eqb, eqb-true}, List.Folds.list_any_at}
 use Rattle.std.proofs.lemmas.List.{get_or-map, get_or-take, length-map, length-take-le}
-use Rattle.std.proofs.lemmas.List.Folds.{list_any_at}
-use Rattle.std.proofs.lemmas.Map.Keys.{IsDistinct-from_apart}
-use Rattle.std.proofs.lemmas.Map.Steps.{length-le_from_distinct_below}
+use Rattle.std.proofs.lemmas.Map.{Keys.IsDistinct-from_apart, Steps.length-le_from_distinct_below}
 use Rattle.std.proofs.lemmas.Option.{get_or_from_slice_get, slice_get-get_or, slice_get-map}
 use Rattle.bench_net.specs.Statement.{Statement}
 use Rattle.list_lemmas.proofs.Members.{Among, among, joined_from, some_passes}
-use Rattle.list_lemmas.proofs.Places.{at_place, from_mapped, placed, place_within}
-use Rattle.list_lemmas.proofs.Places.{within_place}
-use Rattle.fault_model.specs.declared.Model.{Model}
+use Rattle.list_lemmas.proofs.Places.{at_place, from_mapped, placed, place_within, within_place}
+use Rattle.fault_model.specs.{declared.Model.Model, Collapse.{IsClassOf, representatives}}
 use Rattle.fault_model.specs.declared.Model.TheVariants.{StuckAt, Transition, TransitionPairs}
-use Rattle.fault_model.specs.Collapse.{IsClassOf, representatives}
 use Rattle.fault_model.specs.Detection.{DetectsAt, IsInitialized, IsSecondOfPair, LooksBack}
-use Rattle.fault_model.specs.Fault.{Fault, faults}
-use Rattle.fault_model.specs.Solution.{Test}
+use Rattle.fault_model.specs.{Fault.{Fault, faults}, Solution.Test}
 use Rattle.fault_model.proofs.Public.{classes_detected_same, listed_model, own_class}
 use Rattle.block_sim.specs.Parts.{BelongTogether, Parts}
-use Rattle.patterns.specs.Least.{below}
-use Rattle.patterns.proofs.Public.{length-below}
-use Rattle.compaction.specs.Compaction.{Covers, IsNumbered}
-use Rattle.compaction.specs.Steepest.{DetectsClasses, IsOrdered, IsSteepest}
-use Rattle.compaction.specs.Steepest.{IsSteepestCompaction, at_places, with_launches}
+use Rattle.patterns.{specs.Least.below, proofs.Public.length-below}
+use Rattle.compaction.specs.{Compaction.{Covers, IsNumbered}, Steepest.{at_places, with_launches}}
+use Rattle.compaction.specs.Steepest.{DetectsClasses, IsOrdered, IsSteepest, IsSteepestCompaction}
 use Rattle.compaction.specs.declared.TestOrder.TheVariants.{Steepest}
 use Rattle.compaction.specs.Detections.{DetectionTable, detects_by}
-use Rattle.compaction.proofs.DetectedClasses.{class_count}
-use Rattle.compaction.proofs.ElementsAtMarks.{as_many_marked}
+use Rattle.compaction.proofs.{DetectedClasses.class_count, ElementsAtMarks.as_many_marked}
 use Rattle.compaction.proofs.SteepestOrder.{new_class, not_true}
 
 -- ---- the class of a fault
@@ -76,8 +66,7 @@ in_order p order e =
 placed_row : (tests : List Test) (places : List ℕ) (k t : ℕ) (row : Test)
     → slice_get places k ≡ Some t → slice_get tests t ≡ Some row
     → slice_get (at_places [] tests places) k ≡ Some row
-placed_row tests places k t row at is =
-    slice_get-map (λ place. get_or tests place []) places k
+placed_row tests places k t row at is = slice_get-map (λ place. get_or tests place []) places k
     ∙ (ap (option_map (λ place. get_or tests place [])) at
     ∙ ap Some (get_or_from_slice_get tests t row [] is))
 
@@ -104,8 +93,7 @@ capture_at (x ∷ order) (suc k) t e =
 -- the faults that the tests of an order detect, and their rows too
 pub placed_detects : (m : Model) (c : List Statement) (tests : List Test) (order : List ℕ)
     (k t : ℕ) (f : Fault) → m ≢ Transition → f.model ≡ m → slice_get order k ≡ Some t
-    → DetectsAt c tests f t
-    → (j : ℕ) × DetectsAt c (at_places [] tests (with_launches m order)) f j
+    → DetectsAt c tests f t → (j : ℕ) × DetectsAt c (at_places [] tests (with_launches m order)) f j
 placed_detects StuckAt c tests order k t f other model at d = (
   k,
   (
@@ -150,8 +138,7 @@ pub order_covers : (job : Parts) (detects : ℕ → ℕ → Bool) (order : List 
     → job.list.model ≢ Transition
     → DetectsClasses job.list.model job.circuit job.tests.tests detects
     → IsSteepest detects (length (representatives job.list.model job.circuit))
-    (length job.tests.tests) order
-    → Covers job.list.model job.circuit job.tests.tests
+    (length job.tests.tests) order → Covers job.list.model job.circuit job.tests.tests
     (at_places [] job.tests.tests (with_launches job.list.model order))
 order_covers job detects order b other decides steepest = λ f t listed d.
     let m = job.list.model in
@@ -190,10 +177,8 @@ apart detects classes tests order is i j d lt low =
 
 few_tests : (detects : ℕ → ℕ → Bool) (classes tests : ℕ) (order : List ℕ)
     → IsSteepest detects classes tests order → length order ≤ tests
-few_tests detects classes tests order is =
-    length-le_from_distinct_below order tests
-    (IsDistinct-from_apart eqb order (apart detects classes tests order is))
-    (λ q e.
+few_tests detects classes tests order is = length-le_from_distinct_below order tests
+    (IsDistinct-from_apart eqb order (apart detects classes tests order is)) (λ q e.
     let some = some_passes (eqb q) order e in
     let at = placed order some.0 (among order some.0 some.1) in
     let same : q ≡ some.0 = eqb-true q some.0 some.2 in
@@ -340,8 +325,7 @@ steepest_compaction job tests kept given numbers order detects b other is decide
 
 -- the order of the tests of a job, by the words of its classes
 pub steepest_of : (job : Parts) (table : DetectionTable) (order : List ℕ) → BelongTogether job
-    → length table.words ≡ length job.classes.representative
-    → table.tests ≡ length job.tests.tests
+    → length table.words ≡ length job.classes.representative → table.tests ≡ length job.tests.tests
     → IsSteepest (detects_by table) (length table.words) table.tests order
     → IsSteepest (detects_by table) (length (representatives job.list.model job.circuit))
     (length job.tests.tests) order

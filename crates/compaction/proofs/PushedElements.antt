@@ -1,6 +1,5 @@
 -- Vectors that were written over.
-use Rattle.std.proofs.Common.{◌≡◌, ◌++◌, ◌∙◌, ℕ, List, ap}
-use Rattle.std.proofs.Common.{length, take}
+use Rattle.std.proofs.Common.{◌≡◌, ◌++◌, ◌∙◌, ℕ, List, ap, length, take}
 use Rattle.std.proofs.Math.Seq.{take-append_seam}
 
 -- the vector after its slice was overwritten

@@ -1,7 +1,6 @@
 -- Reversed lists.
 use Rattle.std.proofs.Common.{◌≡◌, ◌-◌, ◌∙◌, ℕ, List, length, ap, sym, arith, get_or}
-use Rattle.std.specs.Prelude.{Some, slice_get}
-use Rattle.std.specs.List.{ReversedBelow}
+use Rattle.std.specs.{Prelude.{Some, slice_get}, List.ReversedBelow}
 use Rattle.std.proofs.lemmas.Option.{get_or_from_slice_get, slice_get-get_or, slice_get_within}
 
 pub reversed_back : {X : Type 0} (xs ys : List X) (n j : ℕ) (x : X) → length xs ≡ n → length ys ≡ n

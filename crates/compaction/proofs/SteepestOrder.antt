@@ -1,19 +1,17 @@
 -- Tests in steepest order, one after another.
-use Rattle.std.proofs.Common.{◌≡◌, ◌+◌, ◌<◌, ◌≤◌, ◌∙◌, ◌++◌, ◌∷◌, [], ℕ, zero, suc, Bool, true, false}
-use Rattle.std.proofs.Common.{List, ap, arith, cond, count_by, get_or, inl, inr, length, not, refl}
-use Rattle.std.proofs.Common.{subst, sym, take, ◌⊎◌}
+use Rattle.std.proofs.Common.{◌≡◌, ◌+◌, ◌<◌, ◌≤◌, ◌∙◌, ◌++◌, ◌∷◌, [], ℕ, zero, suc, Bool, true}
+use Rattle.std.proofs.Common.{false, List, ap, arith, cond, count_by, get_or, inl, inr, length, not}
+use Rattle.std.{proofs.Common.{refl, subst, sym, take, ◌⊎◌}, specs.List.list_any}
 use Rattle.std.specs.Prelude.{◌&&◌, ◌||◌, All, None, Some, filter, slice_get}
-use Rattle.std.specs.List.{list_any}
-use Rattle.std.proofs.lemmas.List.{take-append-le}
-use Rattle.std.proofs.lemmas.List.Elements.{All-filter}
+use Rattle.std.proofs.lemmas.List.{take-append-le, Elements.All-filter}
 use Rattle.std.proofs.lemmas.List.Filters.{length-filter_both, sum_by-filter_both}
-use Rattle.std.proofs.lemmas.List.Sums.{length-filter, sum_by-cons}
-use Rattle.std.proofs.lemmas.Option.{slice_get_within}
+use Rattle.std.proofs.lemmas.{List.Sums.{length-filter, sum_by-cons}, Option.slice_get_within}
 use Rattle.std.proofs.Math.Seq.{take-append_seam}
 use Rattle.patterns.specs.Least.{below, from_up}
-use Rattle.compaction.specs.News.{IsBest}
-use Rattle.compaction.specs.Steepest.{IsSteepest, news}
+use Rattle.compaction.specs.{News.IsBest, Steepest.{IsSteepest, news}}
 use Rattle.region_runs.proofs.Public.{push_each}
+pub use Rattle.std.proofs.lemmas.Bool.{false_from_ne_true as not_true}
+use Rattle.flat_circuit.proofs.Public.{left_of as and_left}
 
 -- ---- filters and counts
 
@@ -219,54 +217,54 @@ module _ (some : ℕ → Bool) (detects : ℕ → ℕ → Bool) (are : AreSome s
       none : (k s : ℕ) → slice_get [] k ≡ Some s → IsNext detects classes tests (take k []) s
       none k s e = let bad : None ≡ Some s = e in absurd (cc)
 
-  module _ (order left numbers : List ℕ) (so : IsSoFar some detects classes tests order left numbers)
-    where
-      -- the number of a test is that of its news
-      told : (t : ℕ) → t < tests → get_or numbers t 0 ≡ news detects classes order t
-      told t lt = so.are.each t lt
-          ∙ (ap (count_by (λ class. detects class t)) so.others
-          ∙ news_left some detects are classes order t)
+  module _ (order left numbers : List ℕ)
+      (so : IsSoFar some detects classes tests order left numbers) where
+    -- the number of a test is that of its news
+    told : (t : ℕ) → t < tests → get_or numbers t 0 ≡ news detects classes order t
+    told t lt = so.are.each t lt
+        ∙ (ap (count_by (λ class. detects class t)) so.others
+        ∙ news_left some detects are classes order t)
 
-      pub so_far_more : (best : ℕ) (others counts : List ℕ) → IsBest numbers best
-          → others ≡ filter (λ class. not (detects class best)) left
-          → AreCounts detects tests others counts
-          → IsSoFar some detects classes tests (order ++ best ∷ []) others counts
-      so_far_more best others counts of is so_many = record {
-        others = is ∙ (ap (filter (λ class. not (detects class best))) so.others
-            ∙ left_more some detects are classes order best);
-        are = so_many;
-        each = each_more (IsNext detects classes tests) order best so.each (record {
-          within = low;
-          some = let h = of.some in let e = told best low in omega (arith, h, e);
-          most = λ t lt. let h = of.most t (omega (arith, lt, so.are.count)) in
-              let e = told best low in let f = told t lt in omega (arith, h, e, f);
-          lowest = λ t lt. let h = of.lowest t lt in let e = told best low in
-              let f = told t (omega (arith, lt, low)) in omega (arith, h, e, f);
-        });
-      }
-        where
-          low : best < tests
-          low = let h = of.within in omega (arith, h, so.are.count)
+    pub so_far_more : (best : ℕ) (others counts : List ℕ) → IsBest numbers best
+        → others ≡ filter (λ class. not (detects class best)) left
+        → AreCounts detects tests others counts
+        → IsSoFar some detects classes tests (order ++ best ∷ []) others counts
+    so_far_more best others counts of is so_many = record {
+      others = is ∙ (ap (filter (λ class. not (detects class best))) so.others
+          ∙ left_more some detects are classes order best);
+      are = so_many;
+      each = each_more (IsNext detects classes tests) order best so.each (record {
+        within = low;
+        some = let h = of.some in let e = told best low in omega (arith, h, e);
+        most = λ t lt. let h = of.most t (omega (arith, lt, so.are.count)) in
+            let e = told best low in let f = told t lt in omega (arith, h, e, f);
+        lowest = λ t lt. let h = of.lowest t lt in let e = told best low in
+            let f = told t (omega (arith, lt, low)) in omega (arith, h, e, f);
+      });
+    }
+      where
+        low : best < tests
+        low = let h = of.within in omega (arith, h, so.are.count)
 
-      -- an order after which no test detects any of the classes that are left
-      pub steepest : ((t : ℕ) → t < length numbers → get_or numbers t 0 ≡ 0)
-          → IsSteepest detects classes tests order
-      steepest none = record {
-        within = λ k s e. (so.each k s e).within;
-        some = λ k s e. (so.each k s e).some;
-        most = λ k s t e lt. (so.each k s e).most t lt;
-        lowest = λ k s t e lt. (so.each k s e).lowest t lt;
-        all = λ class t lt low d. covers (detects class t) (list_any (detects class) order)
-            (let own : 0 + class ≡ class = omega arith in
-            ap (λ k. detects k t && not (list_any (detects k) order)) (sym own)
-            ∙ counted_none (λ k. detects k t && not (list_any (detects k) order)) 0 classes
-            (sym (told t low) ∙ none t (omega (arith, low, so.are.count))) class lt) d;
-      }
-        where
-          covers : (a b : Bool) → (a && not b) ≡ false → a ≡ true → b ≡ true
-          covers true true e h = refl
-          covers true false e h = let bad : true ≡ false = e in cc
-          covers false b e h = let bad : false ≡ true = h in cc
+    -- an order after which no test detects any of the classes that are left
+    pub steepest : ((t : ℕ) → t < length numbers → get_or numbers t 0 ≡ 0)
+        → IsSteepest detects classes tests order
+    steepest none = record {
+      within = λ k s e. (so.each k s e).within;
+      some = λ k s e. (so.each k s e).some;
+      most = λ k s t e lt. (so.each k s e).most t lt;
+      lowest = λ k s t e lt. (so.each k s e).lowest t lt;
+      all = λ class t lt low d. covers (detects class t) (list_any (detects class) order)
+          (let own : 0 + class ≡ class = omega arith in
+          ap (λ k. detects k t && not (list_any (detects k) order)) (sym own)
+          ∙ counted_none (λ k. detects k t && not (list_any (detects k) order)) 0 classes
+          (sym (told t low) ∙ none t (omega (arith, low, so.are.count))) class lt) d;
+    }
+      where
+        covers : (a b : Bool) → (a && not b) ≡ false → a ≡ true → b ≡ true
+        covers true true e h = refl
+        covers true false e h = let bad : true ≡ false = e in cc
+        covers false b e h = let bad : false ≡ true = h in cc
 
 -- ---- a test with news
 
@@ -295,18 +293,10 @@ counted_some p a (suc n) some = go (p a) refl (counted_some p (a + 1) n)
 zero_up : (j : ℕ) → 0 + j ≡ j
 zero_up j = omega arith
 
-and_left : (a b : Bool) → (a && b) ≡ true → a ≡ true
-and_left true b e = refl
-and_left false b e = e
-
 and_not : (a b : Bool) → (a && not b) ≡ true → b ≡ false
 and_not true true e = let bad : false ≡ true = e in cc
 and_not true false e = refl
 and_not false b e = let bad : false ≡ true = e in cc
-
-pub not_true : (b : Bool) → (b ≡ true → ⊥) → b ≡ false
-not_true true h = absurd (h refl)
-not_true false h = refl
 
 -- the class that a test with news detects, and none before it
 pub new_class : (detects : ℕ → ℕ → Bool) (classes : ℕ) (before : List ℕ) (t : ℕ)

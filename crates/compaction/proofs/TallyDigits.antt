@@ -1,16 +1,12 @@
 -- Numbers in the lanes of words, and the tallies of classes.
-use Rattle.std.proofs.Common.{◌≡◌, ◌+◌, ◌*◌, ◌/◌, ◌%◌, ◌<◌, ◌≤◌, ◌∙◌, ◌∷◌, [], ℕ, zero, suc, List, All, ap}
-use Rattle.std.proofs.Common.{arith, count_by, get_or, length, map, refl, replicate, subst, sym, take}
-use Rattle.std.proofs.Common.{Bool, true, false}
-use Rattle.std.specs.Prelude.{◌&&◌, ◌^◌, bit_and, bit_xor}
-use Rattle.std.specs.declared.vec.Vec.{Vec}
-use Rattle.std.proofs.Math.Nat.{pow-succ'}
-use Rattle.std.proofs.lemmas.List.{get_or-map, length-map, length-replicate}
-use Rattle.std.proofs.lemmas.List.Elements.{All-map}
+use Rattle.std.proofs.Common.{◌≡◌, ◌+◌, ◌*◌, ◌/◌, ◌%◌, ◌<◌, ◌≤◌, ◌∙◌, ◌∷◌, [], ℕ, zero, suc, List}
+use Rattle.std.proofs.Common.{All, ap, arith, count_by, get_or, length, map, refl, replicate, subst}
+use Rattle.std.{proofs.Common.{sym, take, Bool, true, false}, specs.declared.vec.Vec.Vec}
+use Rattle.std.{specs.Prelude.{◌&&◌, ◌^◌, bit_and, bit_xor}, proofs.Math.Nat.pow-succ'}
+use Rattle.std.proofs.lemmas.List.{get_or-map, length-map, length-replicate, Elements.All-map}
 use Rattle.std.proofs.lemmas.List.Sums.{count_by-le-length, count_by_more_no, count_by_more_yes}
 use Rattle.patterns.specs.Tests.{as_number}
-use Rattle.flat_circuit.specs.Words.{lane}
-use Rattle.flat_circuit.proofs.Public.{lane_and, lane_xor, lane_zero, unlike}
+use Rattle.flat_circuit.{specs.Words.lane, proofs.Public.{lane_and, lane_xor, lane_zero, unlike}}
 use Rattle.compaction.specs.Tallies.{AreTallied, number_in}
 
 -- the sum of two bits, by its digits
@@ -27,8 +23,7 @@ digits_of_sum digit word k =
     rw (lane_xor digit word k, lane_and digit word k) (both (lane digit k) (lane word k))
 
 -- one digit of a sum, with the carry in the digits above it
-pub sum_above : (digit word k old new : ℕ)
-    → new ≡ old + as_number (lane (bit_and digit word) k)
+pub sum_above : (digit word k old new : ℕ) → new ≡ old + as_number (lane (bit_and digit word) k)
     → as_number (lane (bit_xor digit word) k) + 2 * new
     ≡ as_number (lane digit k) + 2 * old + as_number (lane word k)
 sum_above digit word k old new e =
@@ -77,8 +72,7 @@ module _ {Z : Type 0} (detects : ℕ → ℕ → Bool) (digits : ℕ) (groups : 
 pub tallied_room : (detects : ℕ → ℕ → Bool) (classes : List ℕ) (digits : ℕ)
     (groups : List (List ℕ)) → AreTallied detects classes digits groups
     → length classes + 1 < 2 ^ digits → (group k bit : ℕ) → group < length groups → k < 128
-    → bit ≤ 1
-    → number_in (get_or groups group []) k + bit < 2 ^ length (get_or groups group [])
+    → bit ≤ 1 → number_in (get_or groups group []) k + bit < 2 ^ length (get_or groups group [])
 tallied_room detects classes digits groups are few group k bit lt low small =
     let place : (128 * group + k) / 128 ≡ group = omega (arith, low) in
     let lane_of : (128 * group + k) % 128 ≡ k = omega (arith, low) in
@@ -94,11 +88,9 @@ tallied_room detects classes digits groups are few group k bit lt low small =
 -- one class more
 pub tallied_more : (detects : ℕ → ℕ → Bool) (classes : List ℕ) (at d : ℕ) (digits : ℕ)
     (old new : List (List ℕ)) → at < length classes
-    → AreTallied detects (take at classes) digits old
-    → map length new ≡ map length old
+    → AreTallied detects (take at classes) digits old → map length new ≡ map length old
     → ((t : ℕ) → t / 128 < length old → number_in (get_or new (t / 128) []) (t % 128)
-    ≡ number_in (get_or old (t / 128) []) (t % 128)
-    + as_number (detects (get_or classes at d) t))
+    ≡ number_in (get_or old (t / 128) []) (t % 128) + as_number (detects (get_or classes at d) t))
     → AreTallied detects (take (at + 1) classes) digits new
 tallied_more detects classes at d digits old new lt are same sum =
     let count : length new ≡ length old =

@@ -1,6 +1,5 @@
 -- The numbers of the tests of a list.
-use Rattle.std.proofs.Common.{◌≡◌, ◌+◌, ◌∙◌, ◌++◌, ◌∷◌, [], ℕ, zero, suc, ap, arith}
-use Rattle.std.proofs.Common.{add-one}
+use Rattle.std.proofs.Common.{◌≡◌, ◌+◌, ◌∙◌, ◌++◌, ◌∷◌, [], ℕ, zero, suc, ap, arith, add-one}
 use Rattle.patterns.specs.Least.{below, from_up}
 
 more_up : (a n : ℕ) → from_up a (suc n) ≡ from_up a n ++ (a + n) ∷ []

@@ -1,7 +1,7 @@
 //! Tests in the order in which each detects the most classes that none before it detects.
 
-ghost use Rattle.std.specs.Prelude.{◌≡◌, ◌==◌, ◌+◌, ◌<◌, ◌≤◌, ◌^◌, [], ℕ, All, IfNone, IfOk, IfSome};
-ghost use Rattle.std.specs.Prelude.{count_by, filter, length, not, slice_index_or};
+ghost use Rattle.std.specs.Prelude.{◌≡◌, ◌==◌, ◌+◌, ◌<◌, ◌≤◌, ◌^◌, [], ℕ, All, IfNone, IfOk};
+ghost use Rattle.std.specs.Prelude.{IfSome, count_by, filter, length, not, slice_index_or};
 ghost use Rattle.std.specs.List.{list_any};
 ghost use Rattle.patterns.specs.Least.{below};
 ghost use Rattle.compaction.specs.Detections.{detects_by, is_detected};

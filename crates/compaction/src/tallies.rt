@@ -1,7 +1,7 @@
 //! Numbers in binary, in the lanes of words: one step counts in 128 lanes.
 
-ghost use Rattle.std.specs.Prelude.{◌≡◌, ◌+◌, ◌/◌, ◌%◌, ◌<◌, ◌≤◌, ◌^◌, ℕ, All, [], IfOk, length, map};
-ghost use Rattle.std.specs.Prelude.{replicate, slice_index_or};
+ghost use Rattle.std.specs.Prelude.{◌≡◌, ◌+◌, ◌/◌, ◌%◌, ◌<◌, ◌≤◌, ◌^◌, ℕ, All, [], IfOk, length};
+ghost use Rattle.std.specs.Prelude.{map, replicate, slice_index_or};
 ghost use Rattle.patterns.specs.Tests.{as_number};
 ghost use Rattle.flat_circuit.specs.Words.{lane};
 ghost use Rattle.compaction.specs.Tallies.{number_in};

@@ -2,15 +2,12 @@
 use Rattle.std.proofs.Common.{◌≡◌, ◌≢◌, ◌<◌, ◌≤◌, ◌+◌, ◌*◌, ◌/◌, ◌%◌, ◌^◌, ℕ, refl, sym, ◌∙◌, ap}
 use Rattle.std.proofs.Common.{List, length, arith, set, inl, inr, ◌⊎◌, Bool, true, false}
 use Rattle.std.specs.Prelude.{slice_index_or, bit_and, bit_or, nat_lt}
-use Rattle.std.specs.Int.{bit_at, bit_not, w64}
-use Rattle.std.proofs.lemmas.Bool.{cases_eq, ltb-true, ltb-false}
+use Rattle.std.specs.Int.{bit_at, bit_not, w64, trailing_zeros}
+use Rattle.std.proofs.lemmas.{Bool.{cases_eq, ltb-true, ltb-false}, Grind.same_number_lists}
 use Rattle.std.proofs.lemmas.List.{length-set, get_or-set_same, get_or-set_other, get_or_past}
 use Rattle.std.proofs.lemmas.List.FromFn.{get_or-map-range_with_len, length-map-range_with_len}
-use Rattle.std.proofs.lemmas.Grind.{same_number_lists}
 use Rattle.std.proofs.lemmas.Nat.Bits.{bit_at-zero, bit_at_set_same, bit_at_set_other}
-use Rattle.std.proofs.lemmas.Nat.Bits.{bit_at_clear_same, bit_at_clear_other}
-use Rattle.std.proofs.lemmas.Nat.Bits.{bit_at-trailing_zeros}
-use Rattle.std.specs.Int.{trailing_zeros}
+use Rattle.std.proofs.lemmas.Nat.Bits.{bit_at_clear_same, bit_at_clear_other, bit_at-trailing_zeros}
 use Rattle.event_queue.specs.Places.{flag, flags}
 
 pub flags_count : (words : List ℕ) → length (flags words) ≡ 64 * length words
@@ -35,8 +32,7 @@ flag_is words p = go (split p (64 * length words))
         → slice_index_or (flags words) p 0 ≡ flag words p
     go (inl lt) = get_or-map-range_with_len (flag words) 0 (64 * length words) p p 0 lt
         (omega arith)
-    go (inr le) =
-        get_or_past (flags words) p 0 (let n = flags_count words in omega (arith, n, le))
+    go (inr le) = get_or_past (flags words) p 0 (let n = flags_count words in omega (arith, n, le))
         ∙ sym (flag_past words p (omega (arith, le)))
 
 -- a word that is not 0 has a flag
@@ -70,8 +66,7 @@ flag_put words w v p lt at = ap (λ i. bit_at (slice_index_or (set words w v) i 
     ∙ ap (λ x. bit_at x (p % 64)) (get_or-set_same words w v 0 lt)
 
 flag_kept : (words : List ℕ) (w v p : ℕ) → p / 64 ≢ w → flag (set words w v) p ≡ flag words p
-flag_kept words w v p ne = ap (λ x. bit_at x (p % 64))
-    (get_or-set_other words w (p / 64) v 0 ne)
+flag_kept words w v p ne = ap (λ x. bit_at x (p % 64)) (get_or-set_other words w (p / 64) v 0 ne)
 
 module _ (words : List ℕ) (p bits : ℕ) (lt : p / 64 < length words)
     (is : slice_index_or words (p / 64) 0 ≡ bits) where
@@ -83,11 +78,9 @@ module _ (words : List ℕ) (p bits : ℕ) (lt : p / 64 < length words)
     pub written_other : (q : ℕ) → q ≢ p → flag (set words (p / 64) v) q ≡ flag words q
     written_other q ne = go (cases_eq (q / 64) (p / 64))
       where
-        go : (q / 64 ≡ p / 64) ⊎ (q / 64 ≢ p / 64)
-            → flag (set words (p / 64) v) q ≡ flag words q
+        go : (q / 64 ≡ p / 64) ⊎ (q / 64 ≢ p / 64) → flag (set words (p / 64) v) q ≡ flag words q
         go (inl at) = flag_put words (p / 64) v q lt at
-            ∙ (others (q % 64) (omega arith) (apart q ne at)
-            ∙ (ap (λ x. bit_at x (q % 64)) (sym is)
+            ∙ (others (q % 64) (omega arith) (apart q ne at) ∙ (ap (λ x. bit_at x (q % 64)) (sym is)
             ∙ ap (λ i. bit_at (slice_index_or words i 0) (q % 64)) (sym at)))
         go (inr off) = flag_kept words (p / 64) v q off
 
@@ -105,8 +98,7 @@ module _ (words : List ℕ) (p bits : ℕ) (lt : p / 64 < length words)
         go : (k : ℕ) → (k ≡ p) ⊎ (k ≢ p)
             → flag (set words (p / 64) v) k ≡ slice_index_or (set (flags words) p x) k 0
         go k (inl same) = ap (flag (set words (p / 64) v)) same
-            ∙ (flag_put words (p / 64) v p lt refl
-            ∙ (here
+            ∙ (flag_put words (p / 64) v p lt refl ∙ (here
             ∙ (sym (get_or-set_same (flags words) p x 0
             (let n = flags_count words in omega (arith, n, lt)))
             ∙ ap (λ i. slice_index_or (set (flags words) p x) i 0) (sym same))))
@@ -126,8 +118,7 @@ module _ (words : List ℕ) (p bits : ℕ) (lt : p / 64 < length words)
       (λ i low ne. bit_at_set_other w64 bits (p % 64) (omega arith) i ne)
 
   pub set_flags : flags (set words (p / 64) with_bit) ≡ set (flags words) p 1
-  set_flags = written with_bit
-      (λ i low ne. bit_at_set_other w64 bits (p % 64) (omega arith) i ne) 1
+  set_flags = written with_bit (λ i low ne. bit_at_set_other w64 bits (p % 64) (omega arith) i ne) 1
       (bit_at_set_same w64 bits (p % 64) (omega arith))
 
   -- ---- a bit is cleared

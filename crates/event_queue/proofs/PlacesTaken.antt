@@ -1,18 +1,14 @@
 -- A set of places: one place more, one less, and none.
 use Rattle.std.proofs.Common.{◌≡◌, ◌≢◌, ◌<◌, ◌≤◌, ◌+◌, ◌*◌, ◌/◌, ◌%◌, ◌^◌, ℕ, sym, ◌∙◌, ap, subst}
-use Rattle.std.proofs.Common.{List, length, arith, set, inl, inr, ◌⊎◌}
-use Rattle.std.specs.Prelude.{All, bit_and, slice_index_or}
+use Rattle.std.proofs.{Common.{List, length, arith, set, inl, inr, ◌⊎◌}, lemmas.Bool.cases_eq}
+use Rattle.std.{specs.Prelude.{All, bit_and, slice_index_or}, proofs.lemmas.List.get_or_past}
 use Rattle.std.specs.Int.{bit_at, bit_not, trailing_zeros, w64}
-use Rattle.std.proofs.lemmas.Bool.{cases_eq}
 use Rattle.std.proofs.lemmas.List.{length-set, get_or-set_same, get_or-set_other, get_or_default}
-use Rattle.std.proofs.lemmas.List.{get_or_past}
-use Rattle.std.proofs.lemmas.Nat.{and_le_l, or_lt}
-use Rattle.std.proofs.lemmas.Nat.Bits.{bit_at-lt, bit_at-trailing_zeros}
-use Rattle.event_queue.specs.Places.{ArePlaces, flag, flags}
-use Rattle.event_queue.proofs.Zeros.{index_zero}
-use Rattle.event_queue.proofs.Flags.{flag_is, flag_word, no_flags, split, word_flag}
-use Rattle.event_queue.proofs.Flags.{set_same, set_other, with_bit, first_flag, first_flag_least}
-use Rattle.event_queue.proofs.Flags.{clear_same, clear_other, clear_flags, without_bit}
+use Rattle.std.proofs.lemmas.Nat.{and_le_l, or_lt, Bits.{bit_at-lt, bit_at-trailing_zeros}}
+use Rattle.event_queue.{specs.Places.{ArePlaces, flag, flags}, proofs.Zeros.index_zero}
+use Rattle.event_queue.proofs.Flags.{flag_is, flag_word, no_flags, split, word_flag, set_same}
+use Rattle.event_queue.proofs.Flags.{set_other, with_bit, first_flag, first_flag_least, clear_same}
+use Rattle.event_queue.proofs.Flags.{clear_other, clear_flags, without_bit}
 
 module _ (words summary : List ℕ) (all : ArePlaces words summary) where
   -- ---- one more
@@ -60,8 +56,7 @@ module _ (words summary : List ℕ) (all : ArePlaces words summary) where
             → (w ≡ place / 64) ⊎ (w ≢ place / 64) → flag new_summary w ≡ 1
         marked w some (inl same) = ap (flag new_summary) same
             ∙ set_same summary (place / 64) marks in_summary is_marks
-        marked w some (inr other) =
-            set_other summary (place / 64) marks in_summary is_marks w other
+        marked w some (inr other) = set_other summary (place / 64) marks in_summary is_marks w other
             ∙ all.marked w (λ e. some (get_or-set_other words (place / 64) w
             (with_bit words place bits in_words is) 0 other ∙ e))
 
@@ -72,8 +67,7 @@ module _ (words summary : List ℕ) (all : ArePlaces words summary) where
             omega (arith, e, h)))
         marks_of w on (inr other) = λ none.
             all.marks w (sym (set_other summary (place / 64) marks in_summary is_marks w other)
-            ∙ on)
-            (sym (get_or-set_other words (place / 64) w
+            ∙ on) (sym (get_or-set_other words (place / 64) w
             (with_bit words place bits in_words is) 0 other) ∙ none)
 
   -- ---- a word has less
@@ -184,8 +178,7 @@ module _ (words summary : List ℕ) (all : ArePlaces words summary) (at bits : �
 
 -- ---- none
 -- a word has no place before one below which none is set
-pub word_low : (words : List ℕ) (from : ℕ)
-    → ((w : ℕ) → slice_index_or words w 0 < 2 ^ 64)
+pub word_low : (words : List ℕ) (from : ℕ) → ((w : ℕ) → slice_index_or words w 0 < 2 ^ 64)
     → ((p : ℕ) → slice_index_or (flags words) p 0 ≢ 0 → from ≤ p)
     → (w : ℕ) → slice_index_or words w 0 ≢ 0 → from / 64 ≤ w
 word_low words from fits low w some =

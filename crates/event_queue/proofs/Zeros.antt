@@ -1,9 +1,8 @@
 -- The number of zeros in a list.
-use Rattle.std.proofs.Common.{◌≡◌, ◌≢◌, ◌<◌, ◌≤◌, ℕ, zero, suc, ◌+◌, refl, ap}
-use Rattle.std.proofs.Common.{List, [], ◌∷◌, length, arith, set}
-use Rattle.std.specs.Prelude.{All, slice_index_or}
-use Rattle.event_queue.specs.Zeros.{zero_weight, zeros}
+use Rattle.std.proofs.Common.{◌≡◌, ◌≢◌, ◌<◌, ◌≤◌, ℕ, zero, suc, ◌+◌, refl, ap, List, [], ◌∷◌}
+use Rattle.std.{proofs.Common.{length, arith, set}, specs.Prelude.{All, slice_index_or}}
 use Rattle.std.proofs.lemmas.List.Sums.{sum_by-set, sum_by-cons, get_or-le-sum_by}
+use Rattle.event_queue.specs.Zeros.{zero_weight, zeros}
 
 weight_no : (x : ℕ) → x ≢ 0 → zero_weight x ≡ 0
 weight_no zero ne = absurd (ne refl)

@@ -5,15 +5,11 @@ use Rattle.std.proofs.Common.{sym, ap, ◌∙◌, subst, arith, add-one, length-
 use Rattle.std.proofs.Math.Seq.{get_or-append_seam}
 use Rattle.std.proofs.lemmas.List.Elements.{All-nil, All-cons, All-map}
 use Rattle.patterns.specs.Least.{below}
-use Rattle.fault_ledger.specs.declared.Shape.{Shape}
-use Rattle.fault_ledger.specs.declared.words.Post.{Post}
-use Rattle.fault_ledger.specs.Face.{shape_fault}
-use Rattle.fault_ledger.specs.declared.shared.Remembered.{Remembered}
+use Rattle.fault_ledger.specs.{declared.Shape.Shape, declared.words.Post.Post, Face.shape_fault}
+use Rattle.fault_ledger.specs.{declared.shared.Remembered.Remembered, Seats.newcomers}
 use Rattle.fault_ledger.specs.Seats.{Place, Sitter, IsSeated, Recalls, nothing_seen, newcomer}
-use Rattle.fault_ledger.specs.Seats.{newcomers}
 use Rattle.fault_ledger.specs.Words.{post, post_of, newcomer_posts, first_post, others, ForEach}
-use Rattle.fault_ledger.proofs.ListsByPlace.{more_below}
-use Rattle.fault_ledger.proofs.SeatSteps.{nothing_recalled}
+use Rattle.fault_ledger.proofs.{ListsByPlace.more_below, SeatSteps.nothing_recalled}
 
 -- the first of the workers from w on
 pub newcomers_first : (w n : ℕ) → w < n
@@ -32,8 +28,7 @@ deal_first p w n posts rest a l is parts at =
       place = at k;
       worker = (e k).worker;
       exhausted = (e k).exhausted;
-      seen =
-          (e k).seen;
+      seen = (e k).seen;
     }
 
 pub deal_others : (w n : ℕ) (posts rest : List Post) (a : Sitter) → w < n → posts ≡ newcomer_posts w
@@ -48,8 +43,7 @@ blanks_at (suc n) (suc i) = blanks_at n i
 -- the data of a newcomer's seat, which remembers nothing
 pub deal_seat : (p : Place) (s : Shape) (w n : ℕ) (clear : List Remembered) (a : Sitter)
     → a ≡ newcomer p w → p.shape ≡ s → shape_fault s ≡ None → w < s.workers
-    → clear ≡ replicate n nothing_seen
-    → IsSeated a w false s.classes None clear
+    → clear ≡ replicate n nothing_seen → IsSeated a w false s.classes None clear
 deal_seat p s w n clear a e is limits l blank =
     subst (λ (x : Sitter). IsSeated x w false s.classes None clear) (sym e) (record {
       sitter = record {
@@ -70,8 +64,7 @@ deal_seat p s w n clear a e is limits l blank =
 pub deal_more : (p : Place) (w : ℕ) (seats now : List Sitter) (a : Sitter)
     → a ≡ newcomer p w → seats ≡ map (newcomer p) (below w) → now ≡ seats ++ a ∷ []
     → now ≡ map (newcomer p) (below (w + 1))
-deal_more p w seats now a e all pushed =
-    more_below (newcomer p) w seats now a all e pushed
+deal_more p w seats now a e all pushed = more_below (newcomer p) w seats now a all e pushed
 
 -- a property of each post is a property of each seat
 pub of_each : (P : Post → Type 0) (seats : List Sitter) → ForEach P (map post_of seats)

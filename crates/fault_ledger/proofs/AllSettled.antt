@@ -2,17 +2,13 @@
 use Rattle.std.proofs.Common.{◌≡◌, ℕ, zero, suc, ◌+◌, ◌-◌, ◌<◌, ◌≤◌, List, ◌∷◌, map, Option, None}
 use Rattle.std.proofs.Common.{ap, ◌∙◌, arith}
 use Rattle.patterns.specs.Least.{from_up, below}
-use Rattle.fault_ledger.specs.declared.Shape.{Shape}
-use Rattle.fault_ledger.specs.declared.PieceState.{PieceState}
-use Rattle.fault_ledger.specs.declared.Status.{Status}
+use Rattle.fault_ledger.specs.declared.{Shape.Shape, PieceState.PieceState, Status.Status}
+use Rattle.fault_ledger.specs.History.{History, entry, states_of, block_count, piece_count}
+use Rattle.fault_ledger.specs.{History.piece_at, Settled.{status, finish, finish_from}}
+use Rattle.fault_ledger.{specs.Answer.IsLegal, proofs.PieceNumbers.no_block}
+use Rattle.fault_ledger.proofs.ClassStatus.{status-none}
 use Rattle.fault_ledger.specs.declared.Status.TheVariants as status_is
 use Rattle.fault_ledger.specs.declared.Finish.TheVariants as finish_is
-use Rattle.fault_ledger.specs.History.{History, entry, states_of, block_count, piece_count}
-use Rattle.fault_ledger.specs.History.{piece_at}
-use Rattle.fault_ledger.specs.Settled.{status, finish, finish_from}
-use Rattle.fault_ledger.specs.Answer.{IsLegal}
-use Rattle.fault_ledger.proofs.PieceNumbers.{no_block}
-use Rattle.fault_ledger.proofs.ClassStatus.{status-none}
 
 -- past classes that are settled
 finish-past : (g : ℕ → Status) (a m n all b : ℕ) → m + n ≡ all → a + m ≡ b
@@ -48,9 +44,8 @@ SettledBelow s states n = (h : History) → IsLegal s h → states ≡ states_of
 
 -- if there is no piece, all classes are settled
 pub finish-none : (s : Shape) (h : History) → piece_count s ≡ 0 → finish s h ≡ finish_is.Finished
-finish-none s h none =
-    finish-all (status s h) s.classes (λ k l. (
-      None,
-      status-none (λ block. entry (piece_at s k block) h) (block_count s)
-          (λ j m. let a = no_block s k l (omega arith) in absurd (omega arith)),
-    ))
+finish-none s h none = finish-all (status s h) s.classes (λ k l. (
+  None,
+  status-none (λ block. entry (piece_at s k block) h) (block_count s)
+      (λ j m. let a = no_block s k l (omega arith) in absurd (omega arith)),
+))

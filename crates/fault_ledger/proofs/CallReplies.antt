@@ -2,37 +2,26 @@
 use Rattle.std.proofs.Common.{◌≡◌, ℕ, ◌+◌, ◌*◌, ◌%◌, ◌/◌, ◌<◌, ◌≤◌, Bool, true, false}
 use Rattle.std.proofs.Common.{if◌then◌else◌, ◌⊎◌, inl, inr, is_some, eqb, List, ◌∷◌, ◌++◌, map, set}
 use Rattle.std.proofs.Common.{length, slice_get, slice_index_or, Option, Some, None, refl, sym, ap}
-use Rattle.std.proofs.Common.{◌∙◌, subst, arith, lt-ltb, le-ltb, ne_eqb, eq-eqb}
-use Rattle.std.proofs.Math.Nat.{mod-lt}
+use Rattle.std.proofs.{Common.{◌∙◌, subst, arith, lt-ltb, le-ltb, ne_eqb, eq-eqb}, Math.Nat.mod-lt}
 use Rattle.std.proofs.lemmas.Option.{get_or_from_slice_get, slice_get_within}
-use Rattle.patterns.specs.declared.Outcome.{Outcome}
-use Rattle.patterns.specs.Tests.{size_of, max_pieces}
-use Rattle.patterns.specs.Least.{below}
-use Rattle.fault_ledger.specs.declared.Event.{Event}
-use Rattle.fault_ledger.specs.declared.Shape.{Shape}
-use Rattle.fault_ledger.specs.declared.PieceState.{PieceState}
-use Rattle.fault_ledger.specs.declared.PieceState.TheVariants as state
-use Rattle.fault_ledger.specs.declared.Refusal.{Refusal}
+use Rattle.patterns.specs.{declared.Outcome.Outcome, Tests.{size_of, max_pieces}, Least.below}
+use Rattle.patterns.proofs.Public.{length-map-below, get_or-map-below}
+use Rattle.fault_ledger.specs.declared.{Event.Event, Shape.Shape, PieceState.PieceState, Call.Call}
+use Rattle.fault_ledger.specs.declared.Refusal.{Refusal, TheVariants.{BadOutcome, NoEarlierHit}}
 use Rattle.fault_ledger.specs.declared.Refusal.TheVariants.{NoSuchWorker, Holding, NothingHeld}
-use Rattle.fault_ledger.specs.declared.Refusal.TheVariants.{BadOutcome, NoEarlierHit}
-use Rattle.fault_ledger.specs.declared.Claim.TheVariants as claim_is
-use Rattle.fault_ledger.specs.declared.Call.{Call}
-use Rattle.fault_ledger.specs.declared.Call.TheVariants as call
-use Rattle.fault_ledger.specs.declared.Reply.{Reply}
-use Rattle.fault_ledger.specs.declared.Reply.TheVariants.{Claimed, Done, Refused}
+use Rattle.fault_ledger.specs.declared.Reply.{Reply, TheVariants.{Claimed, Done, Refused}}
 use Rattle.fault_ledger.specs.History.{History, claims, held_by, holds, state_of, entry}
-use Rattle.fault_ledger.specs.History.{piece_count}
-use Rattle.fault_ledger.specs.History.{class_of, block_of, piece_at}
+use Rattle.fault_ledger.specs.History.{piece_count, class_of, block_of, piece_at}
 use Rattle.fault_ledger.specs.Answer.{fits_size, is_hit, has_earlier_hit, claim_reply, report_reply}
 use Rattle.fault_ledger.specs.Answer.{drop_reply, answer, events_of, after, IsLegal}
-use Rattle.fault_ledger.specs.Face.{Face, face, IsLedger, Answers}
-use Rattle.fault_ledger.specs.Lowest.{hit_below}
-use Rattle.patterns.proofs.Public.{length-map-below, get_or-map-below}
-use Rattle.fault_ledger.proofs.ListsByPlace.{set-below, any-below}
+use Rattle.fault_ledger.specs.{Face.{Face, face, IsLedger, Answers}, Lowest.hit_below}
+use Rattle.fault_ledger.proofs.{ListsByPlace.{set-below, any-below}, ShapeLimits.few_pieces}
 use Rattle.fault_ledger.proofs.PieceNumbers.{some_class, piece_at-below, block_of-below}
 use Rattle.fault_ledger.proofs.Histories.{holds-not, held-holds}
 use Rattle.fault_ledger.proofs.LegalHistories.{legal_after, held_piece}
-use Rattle.fault_ledger.proofs.ShapeLimits.{few_pieces}
+use Rattle.fault_ledger.specs.declared.PieceState.TheVariants as state
+use Rattle.fault_ledger.specs.declared.Claim.TheVariants as claim_is
+use Rattle.fault_ledger.specs.declared.Call.TheVariants as call
 
 -- a face by its parts
 abbrev pub faced : Shape → ℕ → List (Option ℕ) → List PieceState → Face
@@ -141,16 +130,14 @@ claim-exhausted f w g l = answered f f (call.Claim w) (Claimed claim_is.Exhauste
     (let a = claimed-is f h e in let b = states-length f h e in omega arith) in (
       sym (ap (λ b. if b then claim_reply f.shape h (held_by w h) else Refused NoSuchWorker)
           (lt-ltb w f.shape.workers (found-worker f h w None e g))
-          ∙ ap (claim_reply f.shape h) (found-held f h w None e g)
-          ∙ ap (λ b. if b then Claimed
+          ∙ ap (claim_reply f.shape h) (found-held f h w None e g) ∙ ap (λ b. if b then Claimed
           (claim_is.Piece (class_of f.shape (claims h)) (block_of f.shape (claims h)))
           else Claimed claim_is.Exhausted) (le-ltb (claims h) (piece_count f.shape) few)),
       e,
     ))
 
 pub claim-piece : (f : Face) (w : ℕ) → slice_get f.holding w ≡ Some None
-    → f.claimed < length f.states
-    → Answers f (call.Claim w)
+    → f.claimed < length f.states → Answers f (call.Claim w)
     (Claimed (claim_is.Piece (f.claimed % f.shape.classes) (f.claimed / f.shape.classes)))
     (faced f.shape (f.claimed + 1) (set f.holding w (Some f.claimed)) f.states)
 claim-piece f w g l = answered f (faced f.shape (f.claimed + 1)
@@ -160,13 +147,11 @@ claim-piece f w g l = answered f (faced f.shape (f.claimed + 1)
     let some : claims h < piece_count f.shape = (let b = states-length f h e in omega arith) in (
       sym (ap (λ b. if b then claim_reply f.shape h (held_by w h) else Refused NoSuchWorker)
           (lt-ltb w f.shape.workers (found-worker f h w None e g))
-          ∙ ap (claim_reply f.shape h) (found-held f h w None e g)
-          ∙ ap (λ b. if b then Claimed
+          ∙ ap (claim_reply f.shape h) (found-held f h w None e g) ∙ ap (λ b. if b then Claimed
           (claim_is.Piece (class_of f.shape (claims h)) (block_of f.shape (claims h)))
           else Claimed claim_is.Exhausted) (lt-ltb (claims h) (piece_count f.shape) some)
           ∙ ap (λ n. Claimed (claim_is.Piece (class_of f.shape n) (block_of f.shape n))) (sym c)),
-      λ i. faced f.shape (c i + 1)
-          ((ap (λ l. set l w (Some f.claimed)) (holding-is f h e)
+      λ i. faced f.shape (c i + 1) ((ap (λ l. set l w (Some f.claimed)) (holding-is f h e)
           ∙ set-below (λ v. held_by v h) (λ v. held_by v (Event.Claim w ∷ h)) f.shape.workers w
           (Some f.claimed) (found-worker f h w None e g)
           (ap Some c ∙ sym (ap (λ b. if b then Some (claims h) else held_by w h) (eq-eqb w w refl)))
@@ -212,8 +197,7 @@ pub report-bad : (f : Face) (w p : ℕ) (o : Outcome) → slice_get f.holding w 
     → fits_size (size_of f.shape.tests (p / f.shape.classes)) o ≡ false
     → Answers f (call.Report w o) (Refused BadOutcome) f
 report-bad f w p o g b = answered f f (call.Report w o) (Refused BadOutcome) (λ h legal e. (
-  sym
-      (report-answer f h w o (Some p) e g ∙ ap (λ x. if x then Done else Refused BadOutcome) b),
+  sym (report-answer f h w o (Some p) e g ∙ ap (λ x. if x then Done else Refused BadOutcome) b),
   e,
 ))
 
@@ -225,8 +209,7 @@ settled-face : (f : Face) (h now : History) (w p : ℕ) (x : PieceState) → IsL
     → faced f.shape f.claimed (set f.holding w None) (set f.states p x) ≡ face f.shape now
 settled-face f h now w p x legal e g a b d =
     let is = found-held f h w (Some p) e g in
-    λ i. faced f.shape ((claimed-is f h e ∙ sym a) i)
-    ((ap (λ l. set l w None) (holding-is f h e)
+    λ i. faced f.shape ((claimed-is f h e ∙ sym a) i) ((ap (λ l. set l w None) (holding-is f h e)
     ∙ set-below (λ v. held_by v h) (λ v. held_by v now) f.shape.workers w None
     (found-worker f h w (Some p) e g)
     (sym (b w ∙ ap (λ y. if y then None else held_by w h) (eq-eqb w w refl)))

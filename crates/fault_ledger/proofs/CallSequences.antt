@@ -1,12 +1,8 @@
 -- Calls one after another.
 use Rattle.std.proofs.Common.{◌≡◌, List, [], ◌∷◌, ◌++◌, refl, ap, subst}
-use Rattle.fault_ledger.specs.declared.Shape.{Shape}
-use Rattle.fault_ledger.specs.declared.Call.{Call}
-use Rattle.fault_ledger.specs.declared.Reply.{Reply}
-use Rattle.fault_ledger.specs.History.{History}
-use Rattle.fault_ledger.specs.Answer.{IsLegal, answer, after, replies, after_all}
-use Rattle.fault_ledger.specs.Face.{Face, face, Answers}
-use Rattle.fault_ledger.proofs.LegalHistories.{legal_after}
+use Rattle.fault_ledger.specs.declared.{Shape.Shape, Call.Call, Reply.Reply}
+use Rattle.fault_ledger.specs.{History.History, Answer.{IsLegal, answer, after, replies, after_all}}
+use Rattle.fault_ledger.{specs.Face.{Face, face, Answers}, proofs.LegalHistories.legal_after}
 
 pub after_all-more : (s : Shape) (h : History) (calls : List Call) (c : Call)
     → after_all s h (calls ++ c ∷ []) ≡ after s (after_all s h calls) c

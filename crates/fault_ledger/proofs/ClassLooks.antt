@@ -4,19 +4,15 @@ use Rattle.std.proofs.Common.{true≢false, List, [], ◌∷◌, map, Option, re
 use Rattle.std.proofs.Common.{arith}
 use borrow.Author.Tests.{ltb-true, ltb-false}
 use Rattle.patterns.specs.Least.{below}
-use Rattle.fault_ledger.specs.declared.Shape.{Shape}
-use Rattle.fault_ledger.specs.declared.PieceState.{PieceState}
-use Rattle.fault_ledger.specs.declared.PieceState.TheVariants as state
-use Rattle.fault_ledger.specs.declared.Status.TheVariants.{Settled}
+use Rattle.fault_ledger.specs.declared.{Shape.Shape, PieceState.PieceState}
+use Rattle.fault_ledger.specs.{declared.Status.TheVariants.Settled, History.ContinuesWithout}
 use Rattle.fault_ledger.specs.History.{History, entry, block_count, class_of, block_of, piece_at}
-use Rattle.fault_ledger.specs.History.{ContinuesWithout}
-use Rattle.fault_ledger.specs.Answer.{is_hit, has_earlier_hit, IsLegal}
+use Rattle.fault_ledger.specs.{Answer.{is_hit, has_earlier_hit, IsLegal}, Seats.{Sitter, Sees}}
 use Rattle.fault_ledger.specs.Settled.{status_from, AreClear, IsSettledAt}
-use Rattle.fault_ledger.specs.Seats.{Sitter, Sees}
 use Rattle.fault_ledger.proofs.ListsByPlace.{any_at-below, any_none-below}
-use Rattle.fault_ledger.proofs.Histories.{entry_goes_on}
-use Rattle.fault_ledger.proofs.LegalHistories.{never_first}
+use Rattle.fault_ledger.proofs.{Histories.entry_goes_on, LegalHistories.never_first}
 use Rattle.fault_ledger.proofs.SeatSteps.{clear_goes_on, sees_twice}
+use Rattle.fault_ledger.specs.declared.PieceState.TheVariants as state
 
 pub not_hit : (x : PieceState) → ((k : ℕ) → x ≡ state.Hit k → ⊥) → is_hit x ≡ false
 not_hit state.Open n = refl
@@ -74,8 +70,7 @@ pub record LooksAt (s : Shape) (class n : ℕ) (a d : Sitter) (x : PieceState) :
 
 pub looks_at : (own s : Shape) (class n count : ℕ) (a b d : Sitter) (x : PieceState) → own ≡ s
     → count ≡ block_count own → n < count → Sees a a.exhausted b → AreClear s b.seen class n
-    → Sees b b.exhausted d
-    → x ≡ entry (class + own.classes * n) d.seen → LooksAt s class n a d x
+    → Sees b b.exhausted d → x ≡ entry (class + own.classes * n) d.seen → LooksAt s class n a d x
 looks_at own s class n count a b d x is many l before clear sees e = record {
   within = subst (λ (y : Shape). n < block_count y) is (omega arith);
   sees = sees_twice a b d before sees;

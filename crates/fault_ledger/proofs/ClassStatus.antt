@@ -2,18 +2,14 @@
 use Rattle.std.proofs.Common.{◌≡◌, ℕ, zero, suc, ◌+◌, ◌-◌, ◌*◌, ◌<◌, ◌≤◌, List, ◌∷◌, map, length}
 use Rattle.std.proofs.Common.{slice_index_or, Some, None, sym, ap, ◌∙◌, arith}
 use Rattle.patterns.specs.Least.{from_up, below}
-use Rattle.fault_ledger.specs.declared.Shape.{Shape}
-use Rattle.fault_ledger.specs.declared.PieceState.{PieceState}
-use Rattle.fault_ledger.specs.declared.PieceState.TheVariants as state
-use Rattle.fault_ledger.specs.declared.Status.{Status}
-use Rattle.fault_ledger.specs.declared.Status.TheVariants as status_is
-use Rattle.fault_ledger.specs.History.{History, entry, block_count, piece_count, piece_at}
-use Rattle.fault_ledger.specs.History.{states_of}
-use Rattle.fault_ledger.specs.Settled.{status_from, status}
-use Rattle.fault_ledger.specs.Seats.{AreStates}
 use Rattle.patterns.proofs.Public.{length-map-below, get_or-map-below, map-below_same}
+use Rattle.fault_ledger.specs.declared.{Shape.Shape, PieceState.PieceState, Status.Status}
+use Rattle.fault_ledger.specs.History.{History, entry, block_count, piece_count, piece_at}
+use Rattle.fault_ledger.specs.{History.states_of, Settled.{status_from, status}, Seats.AreStates}
 use Rattle.fault_ledger.proofs.PieceNumbers.{piece_at-below}
 use Rattle.fault_ledger.proofs.LegalHistories.{legal_hit, never_first}
+use Rattle.fault_ledger.specs.declared.PieceState.TheVariants as state
+use Rattle.fault_ledger.specs.declared.Status.TheVariants as status_is
 
 -- past blocks that are clear
 status-past : (g : ℕ → PieceState) (a m n all b : ℕ) → m + n ≡ all → a + m ≡ b
@@ -49,8 +45,7 @@ status-none g n clear = status-past g 0 n 0 n n (omega arith) (omega arith) (λ 
 pub found-entry : (s : Shape) (states : List PieceState) (h : History) (class block : ℕ)
     (d : PieceState) → states ≡ states_of s h → class < s.classes → block < block_count s
     → slice_index_or states (class + s.classes * block) d ≡ entry (piece_at s class block) h
-found-entry s states h class block d e l m =
-    ap (λ x. slice_index_or x (piece_at s class block) d) e
+found-entry s states h class block d e l m = ap (λ x. slice_index_or x (piece_at s class block) d) e
     ∙ get_or-map-below (λ p. entry p h) (piece_count s) (piece_at s class block) d
     (piece_at-below s class block l m)
 
@@ -67,8 +62,7 @@ shown-entry s states h class block e l m = found-entry s states h class block st
 pub shown-status : (s : Shape) (states : List PieceState) (h : History) (class : ℕ) (x : Status)
     → class < s.classes → states ≡ states_of s h
     → status_from 0 (map (shown s states class) (below (block_count s))) ≡ x → x ≡ status s h class
-shown-status s states h class x l e is =
-    sym is
+shown-status s states h class x l e is = sym is
     ∙ ap (status_from 0) (map-below_same (shown s states class) (λ block. entry
     (piece_at s class block) h) (block_count s) (λ k m. shown-entry s states h class k e l m))
 

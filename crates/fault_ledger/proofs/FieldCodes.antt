@@ -2,10 +2,9 @@
 use Rattle.std.proofs.Common.{◌≡◌, ℕ, zero, suc, ◌+◌, ◌%◌, ◌<◌, false, if◌then◌else◌, eqb, List, []}
 use Rattle.std.proofs.Common.{◌∷◌, map, length, get_or, refl, sym, ap, ◌∙◌, arith, ne_eqb}
 use Rattle.std.proofs.lemmas.List.{get_or-map}
-use Rattle.fault_ledger.specs.declared.PieceState.{PieceState}
-use Rattle.fault_ledger.specs.declared.PieceState.TheVariants as state
-use Rattle.fault_ledger.specs.Settled.{is_skipped}
+use Rattle.fault_ledger.specs.{declared.PieceState.PieceState, Settled.is_skipped}
 use Rattle.fault_ledger.specs.Words.{code_of, state_at}
+use Rattle.fault_ledger.specs.declared.PieceState.TheVariants as state
 
 -- a field is read back as the state that was written
 pub decoded : (st : PieceState) → ((k : ℕ) → st ≡ state.Hit k → k < 64) → state_at (code_of st) ≡ st
@@ -22,8 +21,7 @@ decoded (state.Hit k) f =
     then state.Skipped else state.Hit ((128 + k) % 64)) a
     ∙ ap (λ x. if x then state.Clear else if eqb (128 + k) 2 then state.Skipped
     else state.Hit ((128 + k) % 64)) b
-    ∙ ap (λ x. if x then state.Skipped else state.Hit ((128 + k) % 64)) c
-    ∙ ap state.Hit m
+    ∙ ap (λ x. if x then state.Skipped else state.Hit ((128 + k) % 64)) c ∙ ap state.Hit m
 
 -- the states of codes that a function gives
 pub states_of_codes : {X : Type 0} (f : X → ℕ) (xs : List X)
@@ -46,11 +44,9 @@ skipped_code (suc (suc (suc n))) =
     let b : eqb m 1 ≡ false = ne_eqb m 1 (λ e. absurd (omega arith)) in
     let c : eqb m 2 ≡ false = ne_eqb m 2 (λ e. absurd (omega arith)) in
     ap (λ x. is_skipped (if x then state.Open else if eqb m 1 then state.Clear else if eqb m 2
-    then state.Skipped else state.Hit (m % 64))) a
-    ∙ ap (λ x. is_skipped
+    then state.Skipped else state.Hit (m % 64))) a ∙ ap (λ x. is_skipped
     (if x then state.Clear else if eqb m 2 then state.Skipped else state.Hit (m % 64))) b
-    ∙ ap (λ x. is_skipped (if x then state.Skipped else state.Hit (m % 64))) c
-    ∙ sym c
+    ∙ ap (λ x. is_skipped (if x then state.Skipped else state.Hit (m % 64))) c ∙ sym c
 
 pub codes_long : (codes : List ℕ) → length (map state_at codes) ≡ length codes
 codes_long [] = refl

@@ -1,15 +1,13 @@
 -- A class is settled exactly at the test of its first hit.
 use Rattle.std.proofs.Common.{◌≡◌, ℕ, zero, suc, ◌+◌, ◌-◌, ◌*◌, ◌<◌, ◌≤◌, List, ◌∷◌, map, Option}
-use Rattle.std.proofs.Common.{Some, None, refl, sym, ap, ◌∙◌, subst, arith}
-use Rattle.std.proofs.Math.Logic.{◌↔◌}
+use Rattle.std.proofs.{Common.{Some, None, refl, sym, ap, ◌∙◌, subst, arith}, Math.Logic.◌↔◌}
 use Rattle.patterns.specs.Least.{from_up}
-use Rattle.fault_ledger.specs.declared.Shape.{Shape}
-use Rattle.fault_ledger.specs.declared.PieceState.{PieceState}
-use Rattle.fault_ledger.specs.declared.PieceState.TheVariants as state
-use Rattle.fault_ledger.specs.declared.Status.TheVariants as status_is
+use Rattle.fault_ledger.specs.declared.{Shape.Shape, PieceState.PieceState}
 use Rattle.fault_ledger.specs.History.{History, entry, block_count, piece_at}
 use Rattle.fault_ledger.specs.Settled.{status_from, IsSettledAt, IsFirstHit}
 use Rattle.fault_ledger.proofs.ClassStatus.{status-hit, status-none}
+use Rattle.fault_ledger.specs.declared.PieceState.TheVariants as state
+use Rattle.fault_ledger.specs.declared.Status.TheVariants as status_is
 
 -- the blocks from this one to before that one are clear
 abbrev Clears : (ℕ → PieceState) → ℕ → ℕ → Type 0
@@ -17,11 +15,8 @@ Clears g first end = (k : ℕ) → first ≤ k → k < end → g k ≡ state.Cle
 
 abbrev FirstFrom : (ℕ → PieceState) → ℕ → ℕ → Option ℕ → Type 0
 FirstFrom g first end None = Clears g first end
-FirstFrom g first end (Some test) = (block : ℕ) × (k : ℕ)
-    × (first ≤ block) × (block < end)
-    × Clears g first block
-    × (g block ≡ state.Hit k)
-    × (test ≡ 64 * block + k)
+FirstFrom g first end (Some test) = (block : ℕ) × (k : ℕ) × (first ≤ block) × (block < end)
+    × Clears g first block × (g block ≡ state.Hit k) × (test ≡ 64 * block + k)
 
 -- one more clear block in front
 clears_more : (g : ℕ → PieceState) (first end : ℕ) → g first ≡ state.Clear

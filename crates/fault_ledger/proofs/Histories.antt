@@ -1,12 +1,10 @@
 -- Facts about histories: the holder of a piece, and the piece's states.
 use Rattle.std.proofs.Common.{◌≡◌, ◌≢◌, ℕ, ◌+◌, ◌<◌, ◌≤◌, Bool, true, false, if◌then◌else◌, eqb, []}
 use Rattle.std.proofs.Common.{◌∷◌, ◌++◌, Option, Some, None, refl, sym, ap, ◌∙◌, arith, ne_eqb}
-use Rattle.std.proofs.Common.{eqb-true, eq-eqb, append_assoc}
-use Rattle.std.specs.Option.{option_map_or}
-use Rattle.fault_ledger.specs.declared.Event.{Event}
-use Rattle.fault_ledger.specs.declared.PieceState.TheVariants as state
+use Rattle.std.{proofs.Common.{eqb-true, eq-eqb, append_assoc}, specs.Option.option_map_or}
+use Rattle.fault_ledger.specs.{declared.Event.Event, History.ContinuesWithout}
 use Rattle.fault_ledger.specs.History.{History, claims, held_by, holds, state_of, entry, NoneOf}
-use Rattle.fault_ledger.specs.History.{ContinuesWithout}
+use Rattle.fault_ledger.specs.declared.PieceState.TheVariants as state
 
 -- a piece that is held was claimed
 pub held_below : (w p : ℕ) (h : History) → held_by w h ≡ Some p → p < claims h
@@ -20,15 +18,13 @@ held_below w p (Event.Claim u ∷ h) e = go (eqb w u) (held_below w p h) e
 held_below w p (Event.Report u o ∷ h) e = go (eqb w u) (held_below w p h) e
   where
     go : (b : Bool) → (held_by w h ≡ Some p → p < claims h)
-        → (if b then None else held_by w h) ≡ Some p
-        → p < claims h
+        → (if b then None else held_by w h) ≡ Some p → p < claims h
     go true i e = absurd (cc)
     go false i e = i e
 held_below w p (Event.Drop u ∷ h) e = go (eqb w u) (held_below w p h) e
   where
     go : (b : Bool) → (held_by w h ≡ Some p → p < claims h)
-        → (if b then None else held_by w h) ≡ Some p
-        → p < claims h
+        → (if b then None else held_by w h) ≡ Some p → p < claims h
     go true i e = absurd (cc)
     go false i e = i e
 
@@ -154,8 +150,7 @@ pub goes_on_twice : (w : ℕ) (last later earlier : History) → ContinuesWithou
     → ContinuesWithout w later earlier → ContinuesWithout w last earlier
 goes_on_twice w last later earlier a b = (
   a.0 ++ b.0,
-  a.1 ∙ ap (λ h. a.0 ++ h) b.1
-      ∙ sym (append_assoc a.0 b.0 earlier),
+  a.1 ∙ ap (λ h. a.0 ++ h) b.1 ∙ sym (append_assoc a.0 b.0 earlier),
   none_append w a.0 b.0 a.2 b.2,
 )
 

@@ -2,23 +2,16 @@
 use Rattle.std.proofs.Common.{◌≡◌, ℕ, zero, suc, ◌+◌, ◌*◌, ◌%◌, ◌^◌, ◌<◌, ◌≤◌, ⊎_elim, min, Bool}
 use Rattle.std.proofs.Common.{true, false, true≢false, if◌then◌else◌, eqb, List, [], ◌∷◌, ◌++◌, set}
 use Rattle.std.proofs.Common.{length, slice_index, None, refl, sym, ap, ◌∙◌, subst, arith, ne_eqb}
-use Rattle.std.proofs.Common.{length-append}
-use Rattle.std.proofs.Math.Nat.{min-eq_left, zero-div}
-use mathlib.Core.Option.{some, some-injective, some-ne-none}
-use mathlib.Core.Logic.{dite}
+use Rattle.std.proofs.{Common.length-append, Math.Nat.{min-eq_left, zero-div}}
+use mathlib.Core.{Option.{some, some-injective, some-ne-none}, Logic.dite}
 use native.Mathlib.Decide.{ℕ_discrete}
 use lib.ListN.{get_elem?}
-use Rattle.atomic_table.specs.Table.{Splits, Joins, opening}
-use Rattle.atomic_table.proofs.Lists.{at_snoc, set_else}
-use Rattle.fault_ledger.specs.declared.Shape.{Shape}
-use Rattle.fault_ledger.specs.declared.words.Post.{Post}
-use Rattle.fault_ledger.specs.declared.words.View.{View}
-use Rattle.fault_ledger.specs.History.{piece_count}
-use Rattle.fault_ledger.specs.Face.{shape_fault}
-use Rattle.fault_ledger.specs.Words.{field, word_with, word_count, total}
-use Rattle.fault_ledger.specs.Words.{times, exhausted_of, ForEach}
-use Rattle.fault_ledger.specs.Words.{Knows, IsKept, newcomer_posts, everybody, front, others}
-use Rattle.fault_ledger.specs.Words.{front_of, others_of, both_of, nobody}
+use Rattle.atomic_table.{specs.Table.{Splits, Joins, opening}, proofs.Lists.{at_snoc, set_else}}
+use Rattle.fault_ledger.specs.declared.{Shape.Shape, words.Post.Post, words.View.View}
+use Rattle.fault_ledger.specs.{History.piece_count, Face.shape_fault}
+use Rattle.fault_ledger.specs.Words.{field, word_with, word_count, total, times, exhausted_of}
+use Rattle.fault_ledger.specs.Words.{ForEach, Knows, IsKept, newcomer_posts, everybody, front}
+use Rattle.fault_ledger.specs.Words.{others, front_of, others_of, both_of, nobody}
 use Rattle.fault_ledger.proofs.SumsOverViews.{total-set, for_append, set_known}
 
 off : false ≡ true → ⊥
@@ -41,8 +34,7 @@ times-before x w (suc n) l =
 
 times-newcomers : (x w n : ℕ) → times x (newcomer_posts w n) ≤ 1
 times-newcomers x w zero = omega arith
-times-newcomers x w (suc n) =
-    dite (ℕ_discrete w x)
+times-newcomers x w (suc n) = dite (ℕ_discrete w x)
     (λ e. let i = times-before x (suc w) n (omega arith) in at_most (eqb w x) (omega arith))
     (λ n'. let e : eqb w x ≡ false = ne_eqb w x n' in let i = times-newcomers x (suc w) n in
     rw e (omega arith))
@@ -56,12 +48,7 @@ knows-newcomers : (s : Shape) (w n : ℕ) → w + n ≤ s.workers
     → ForEach (Knows s [] s) (newcomer_posts w n)
 knows-newcomers s w zero l = tt
 knows-newcomers s w (suc n) l = (
-  record {
-    same = refl;
-    among = (omega arith);
-    newer = ([], refl, tt);
-    done = λ e. absurd (off e);
-  },
+  record { same = refl; among = (omega arith); newer = ([], refl, tt); done = λ e. absurd (off e) },
   knows-newcomers s (suc w) n (omega arith),
 )
 
@@ -186,15 +173,13 @@ joins s id other v w same t kept at apart there =
         marked = k.marked;
         counted = k.counted;
         bounded = (let q = k.bounded in let e = join_total (λ v. exhausted_of v.posts) t.views id
-            other v
-            w b nobody at there (exhausted-append w.posts v.posts) refl in omega arith);
+            other v w b nobody at there (exhausted-append w.posts v.posts) refl in omega arith);
         staffed = (let q = k.staffed in let e = join_total (λ v. length v.posts) t.views id other v
             w b nobody at there (length-append w.posts v.posts) refl in omega arith);
         apart = (λ x. let q = k.apart x in let e = join_total (λ v. times x v.posts) t.views id
             other v w b nobody at there (times-append x w.posts v.posts) refl in omega arith);
         known = set_known s h (set t.views id b) other nobody
             (λ j u n e. set_known s h t.views id b (λ i y m f. k.known i y f)
-            (for_append (Knows s h v.shape) w.posts v.posts theirs mine) j u e)
-            tt;
+            (for_append (Knows s h v.shape) w.posts v.posts theirs mine) j u e) tt;
       },
     )

@@ -1,14 +1,10 @@
 -- Two tokens that are joined, and look together.
 use Rattle.std.proofs.Common.{◌≡◌, ℕ, [], ◌∷◌, sym, ◌∙◌, subst}
 use mathlib.Core.Option.{none}
-use Rattle.atomic_table.specs.Seated.{TableId}
-use Rattle.atomic_table.specs.Table.{Me, Allows, step}
-use Rattle.fault_ledger.specs.declared.Shape.{Shape}
-use Rattle.fault_ledger.specs.declared.words.View.{View}
-use Rattle.fault_ledger.specs.Seats.{Sitter}
-use Rattle.fault_ledger.specs.Words.{post_of, both_of, IsKept, Looks}
+use Rattle.atomic_table.specs.{Seated.TableId, Table.{Me, Allows, step}}
+use Rattle.fault_ledger.specs.{declared.Shape.Shape, declared.words.View.View, Seats.Sitter}
+use Rattle.fault_ledger.{specs.Words.{post_of, both_of, IsKept, Looks}, proofs.TokenAsSeat.Taken}
 use Rattle.fault_ledger.proofs.LoadsKeepRule.{looks_allowed}
-use Rattle.fault_ledger.proofs.TokenAsSeat.{Taken}
 
 -- a load by the table seat of both workers
 pub both_allowed : (s : Shape) (u : TableId) (a b : Sitter) (t v : TableId)

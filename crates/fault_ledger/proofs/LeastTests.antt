@@ -2,20 +2,14 @@
 -- true.
 use Rattle.std.proofs.Common.{◌≡◌, ℕ, ◌+◌, Bool, true, false, if◌then◌else◌, List, [], ◌∷◌, map}
 use Rattle.std.proofs.Common.{Option, refl, sym, subst}
-use Rattle.patterns.specs.declared.Outcome.{Outcome}
+use Rattle.patterns.specs.{declared.Outcome.Outcome, Least.{Table, below, first_hit}}
 use Rattle.patterns.specs.declared.Outcome.TheVariants as outcome
-use Rattle.patterns.specs.Least.{Table, below, first_hit}
-use Rattle.fault_ledger.specs.declared.Event.{Event}
-use Rattle.fault_ledger.specs.declared.Shape.{Shape}
-use Rattle.fault_ledger.specs.declared.PieceState.{PieceState}
-use Rattle.fault_ledger.specs.declared.PieceState.TheVariants as state
-use Rattle.fault_ledger.specs.declared.Status.TheVariants.{Settled}
+use Rattle.fault_ledger.specs.declared.{Event.Event, Shape.Shape, PieceState.PieceState}
+use Rattle.fault_ledger.specs.{declared.Status.TheVariants.Settled, History.{piece_at, block_count}}
 use Rattle.fault_ledger.specs.History.{History, holds, state_of, entry, class_of, block_of}
-use Rattle.fault_ledger.specs.History.{piece_at, block_count}
-use Rattle.fault_ledger.specs.Settled.{status_from}
-use Rattle.fault_ledger.specs.Answer.{Gives, IsTrueTo, SettlesAtLeast}
-use Rattle.fault_ledger.proofs.Histories.{holds-held}
-use Rattle.fault_ledger.proofs.PieceNumbers.{class_of-at, block_of-at}
+use Rattle.fault_ledger.specs.{Settled.status_from, Answer.{Gives, IsTrueTo, SettlesAtLeast}}
+use Rattle.fault_ledger.proofs.{Histories.holds-held, PieceNumbers.{class_of-at, block_of-at}}
+use Rattle.fault_ledger.specs.declared.PieceState.TheVariants as state
 
 -- the state of a reported piece follows from the table's outcome
 abbrev Agrees : PieceState → Outcome → Type 0
@@ -65,5 +59,4 @@ settles_at_least s table h t class at l e =
     (λ k. subst (λ b. Agrees (entry (piece_at s class k) h) (table class b))
     (block_of-at s class k l)
     (subst (λ c. Agrees (entry (piece_at s class k) h) (table c (block_of s (piece_at s class k))))
-    (class_of-at s class k l) (agrees s table h t (piece_at s class k))))
-    e
+    (class_of-at s class k l) (agrees s table h t (piece_at s class k)))) e

@@ -1,31 +1,23 @@
 -- Facts about legal histories.
 use Rattle.std.proofs.Common.{◌≡◌, ◌≢◌, ℕ, zero, suc, ◌+◌, ◌<◌, ◌≤◌, Bool, true, false, ◌||◌}
 use Rattle.std.proofs.Common.{if◌then◌else◌, nat_lt, List, [], ◌∷◌, ◌++◌, length, Option, Some}
-use Rattle.std.proofs.Common.{None, refl, sym, ap, ◌∙◌, subst, arith}
-use Rattle.std.specs.List.{list_any}
+use Rattle.std.{proofs.Common.{None, refl, sym, ap, ◌∙◌, subst, arith}, specs.List.list_any}
 use borrow.Author.Tests.{ltb-true}
-use Rattle.patterns.specs.declared.Outcome.{Outcome}
+use Rattle.patterns.specs.{declared.Outcome.Outcome, Tests.size_of, Least.{from_up, below}}
 use Rattle.patterns.specs.declared.Outcome.TheVariants as outcome
-use Rattle.patterns.specs.Tests.{size_of}
-use Rattle.patterns.specs.Least.{from_up, below}
-use Rattle.fault_ledger.specs.declared.Event.{Event}
-use Rattle.fault_ledger.specs.declared.Shape.{Shape}
-use Rattle.fault_ledger.specs.declared.PieceState.{PieceState}
-use Rattle.fault_ledger.specs.declared.PieceState.TheVariants as state
+use Rattle.fault_ledger.specs.declared.{Event.Event, Shape.Shape, PieceState.PieceState, Call.Call}
 use Rattle.fault_ledger.specs.declared.Refusal.TheVariants.{NoSuchWorker, BadOutcome, NoEarlierHit}
-use Rattle.fault_ledger.specs.declared.Claim.TheVariants as claim_is
-use Rattle.fault_ledger.specs.declared.Call.{Call}
-use Rattle.fault_ledger.specs.declared.Call.TheVariants as call
-use Rattle.fault_ledger.specs.declared.Reply.{Reply}
-use Rattle.fault_ledger.specs.declared.Reply.TheVariants.{Claimed, Done, Refused}
+use Rattle.fault_ledger.specs.declared.Reply.{Reply, TheVariants.{Claimed, Done, Refused}}
 use Rattle.fault_ledger.specs.History.{History, claims, held_by, holds, state_of, entry}
-use Rattle.fault_ledger.specs.History.{piece_count}
-use Rattle.fault_ledger.specs.History.{class_of, block_of, piece_at}
+use Rattle.fault_ledger.specs.History.{piece_count, class_of, block_of, piece_at}
 use Rattle.fault_ledger.specs.Answer.{fits_size, is_hit, has_earlier_hit, claim_reply, report_reply}
 use Rattle.fault_ledger.specs.Answer.{drop_reply, answer, events_of, after, IsLegal}
 use Rattle.fault_ledger.specs.Answer.{SkippedIsNeverFirst}
 use Rattle.fault_ledger.proofs.Histories.{held_below, holds-held, entry_past}
 use Rattle.fault_ledger.proofs.PieceNumbers.{class_of-at, block_of-at}
+use Rattle.fault_ledger.specs.declared.PieceState.TheVariants as state
+use Rattle.fault_ledger.specs.declared.Claim.TheVariants as claim_is
+use Rattle.fault_ledger.specs.declared.Call.TheVariants as call
 
 grew : (h : History) (e : Event) → h ≡ e ∷ h → ⊥
 grew h e p = let q = ap (λ (l : History). length l) p in omega arith
@@ -174,12 +166,10 @@ hit-not_open x e f = let g = ap is_hit f in absurd (cc)
 -- a hit stays a hit
 pub hit_kept : (s : Shape) (h : History) (e : Event) (p : ℕ) → has_earlier_hit s h p ≡ true
     → has_earlier_hit s (e ∷ h) p ≡ true
-hit_kept s h e p hit =
-    any_kept (λ block. is_hit (entry (piece_at s (class_of s p) block) h))
+hit_kept s h e p hit = any_kept (λ block. is_hit (entry (piece_at s (class_of s p) block) h))
     (λ block. is_hit (entry (piece_at s (class_of s p) block) (e ∷ h))) (below (block_of s p))
     (λ k x. ap is_hit (entry_past (piece_at s (class_of s p) k) (e ∷ []) h
-    (hit-not_open (entry (piece_at s (class_of s p) k) h) x)) ∙ x)
-    hit
+    (hit-not_open (entry (piece_at s (class_of s p) k) h) x)) ∙ x) hit
 
 -- a skipped piece comes after a hit of its class
 pub skipped_after_hit : (s : Shape) (p : ℕ) (h : History) → IsLegal s h → entry p h ≡ state.Skipped

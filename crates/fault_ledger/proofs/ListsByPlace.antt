@@ -1,8 +1,7 @@
 -- Lists that a function of the place gives.
 use Rattle.std.proofs.Common.{List, [], ◌++◌, add-one, ◌≡◌, ◌≢◌, ℕ, zero, suc, ◌+◌, ◌<◌, ◌≤◌, Bool}
 use Rattle.std.proofs.Common.{true, false, ◌||◌, ◌∷◌, map, set, length, replicate, get_or}
-use Rattle.std.proofs.Common.{slice_index, refl, sym, ap, ◌∙◌, arith}
-use Rattle.std.specs.List.{list_any}
+use Rattle.std.{proofs.Common.{slice_index, refl, sym, ap, ◌∙◌, arith}, specs.List.list_any}
 use Rattle.patterns.specs.Least.{from_up, below}
 
 -- a place of a list is given its own element

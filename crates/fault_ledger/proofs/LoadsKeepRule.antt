@@ -5,13 +5,10 @@ use Rattle.std.proofs.Math.Nat.{min-le_right}
 use mathlib.Core.Option.{some, none}
 use lib.ListN.{get_elem?}
 use Rattle.atomic_table.specs.Table.{Me, step, keeps, Allows}
-use Rattle.fault_ledger.specs.declared.Shape.{Shape}
-use Rattle.fault_ledger.specs.declared.words.Post.{Post}
-use Rattle.fault_ledger.specs.declared.words.View.{View}
+use Rattle.fault_ledger.specs.declared.{Shape.Shape, words.Post.Post, words.View.View}
 use Rattle.fault_ledger.specs.History.{History, piece_count, claims, entry, ContinuesWithout}
-use Rattle.fault_ledger.specs.Answer.{IsLegal}
+use Rattle.fault_ledger.specs.{Answer.IsLegal, Words.{Knows, IsKeptBy, IsKept, see, Looks}}
 use Rattle.fault_ledger.specs.Words.{code_of, field_in, field, total, times, exhausted_of, ForEach}
-use Rattle.fault_ledger.specs.Words.{Knows, IsKeptBy, IsKept, see, Looks}
 use Rattle.fault_ledger.proofs.Histories.{held_goes_on, claims_past, goes_on_same}
 use Rattle.fault_ledger.proofs.ListsByPlace.{set_same}
 use Rattle.fault_ledger.proofs.SumsOverViews.{total-set, for_all, set_known}
@@ -24,8 +21,7 @@ same_total f views id v w at e = let t = total-set f views id v w at in omega ar
 -- the rule after a step with no event, at which the posts of one view change
 pub look_keeps : (s : Shape) (h : History) (words : List ℕ) (views : List View)
     (kept : IsKeptBy s h words views) (id : ℕ) (v : View) (at : get_elem? views id ≡ some v)
-    → (ps : List Post) (now : List ℕ)
-    → length now ≡ length words
+    → (ps : List Post) (now : List ℕ) → length now ≡ length words
     → ((p : ℕ) → p < piece_count s → field_in now p ≡ code_of (entry p h))
     → claims h ≡ min (slice_index now 0) (piece_count s)
     → slice_index now 0 + exhausted_of v.posts ≤ piece_count s + total

@@ -5,19 +5,15 @@ use Rattle.std.proofs.Common.{length, replicate, get_or, slice_get, slice_index,
 use Rattle.std.proofs.Common.{ap, ◌∙◌, subst, arith, lt-ltb, le-ltb, eqb-true, eq-eqb, length-set}
 use Rattle.std.proofs.lemmas.List.{get_or-set_same, get_or-set_other}
 use borrow.Author.Tests.{ltb-true, ltb-false}
-use Rattle.fault_ledger.specs.declared.Shape.{Shape}
-use Rattle.fault_ledger.specs.declared.PieceState.{PieceState}
-use Rattle.fault_ledger.specs.declared.PieceState.TheVariants as state
+use Rattle.fault_ledger.specs.{declared.Shape.Shape, declared.PieceState.PieceState, Answer.is_hit}
 use Rattle.fault_ledger.specs.History.{block_count, piece_count, class_of, block_of, piece_at}
-use Rattle.fault_ledger.specs.Answer.{is_hit}
-use Rattle.fault_ledger.specs.Face.{Face, IsLedger}
-use Rattle.fault_ledger.specs.Lowest.{hit_below, AreLowestHits}
+use Rattle.fault_ledger.specs.{Face.{Face, IsLedger}, Lowest.{hit_below, AreLowestHits}}
 use Rattle.fault_ledger.proofs.ListsByPlace.{set_same, any-below, any_at-below, any_none-below}
 use Rattle.fault_ledger.proofs.PieceNumbers.{some_class, class_of-at, block_of-at, block_of-below}
-use Rattle.fault_ledger.proofs.PieceNumbers.{class-below, at-of}
-use Rattle.fault_ledger.proofs.Histories.{held_open}
+use Rattle.fault_ledger.proofs.{PieceNumbers.{class-below, at-of}, Histories.held_open}
 use Rattle.fault_ledger.proofs.CallReplies.{state-entry, found-held, found-piece, ledger-states}
 use Rattle.fault_ledger.proofs.CallReplies.{shows_hit}
+use Rattle.fault_ledger.specs.declared.PieceState.TheVariants as state
 
 -- tests of numbers
 or_false : (b : Bool) → (b || false) ≡ b
@@ -76,8 +72,7 @@ hit_set s states class block n x l m hit = go (nat_lt block n) refl
 
     go : (b : Bool) → nat_lt block n ≡ b → hit_below s
         (set states (piece_at s class block) x) class n ≡ (hit_below s states class n || b)
-    go true e =
-        any_at-below P n block (ltb-true block n e)
+    go true e = any_at-below P n block (ltb-true block n e)
         (ap is_hit (get_or-set_same states (piece_at s class block) x state.Open m) ∙ hit)
         ∙ sym (or_true (hit_below s states class n))
     go false e =
@@ -95,8 +90,7 @@ hit_other : (s : Shape) (states : List PieceState) (class block other n : ℕ) (
     → hit_below s (set states (piece_at s class block) x) other n ≡ hit_below s states other n
 hit_other s states class block other n x l m differ =
     any-below (λ k. is_hit (get_or (set states (piece_at s class block) x) (piece_at s other k)
-    state.Open)) (λ k. is_hit (get_or states (piece_at s other k) state.Open)) n
-    (λ k o. ap is_hit
+    state.Open)) (λ k. is_hit (get_or states (piece_at s other k) state.Open)) n (λ k o. ap is_hit
     (get_or-set_other states (piece_at s class block) (piece_at s other k) x state.Open
     (λ i. differ (sym (class_of-at s other k m) ∙ ap (class_of s) i
     ∙ class_of-at s class block l))))
@@ -126,8 +120,7 @@ hits_at s states hits class block x i l m o hit = record {
         ∙ sym (hit_set s states class block n x l o hit))
     go other n u few false e =
         let differ : other ≢ class = (λ q. true≢false (sym (eq-eqb other class q) ∙ e)) in
-        ap (λ y. nat_lt y n) (get_or-set_other hits class other now 0 differ)
-        ∙ i.each other n u few
+        ap (λ y. nat_lt y n) (get_or-set_other hits class other now 0 differ) ∙ i.each other n u few
         ∙ sym (hit_other s states class block other n x l u differ)
 
 -- the class of a piece has a number
@@ -151,8 +144,7 @@ lowest_with lowest block x = (if is_hit x then min lowest block else lowest)
 -- after a piece that was no hit has changed
 lowest_set : (s : Shape) (states : List PieceState) (hits : List ℕ) (p : ℕ) (x : PieceState)
     → AreLowestHits s states hits → p < piece_count s → length states ≡ piece_count s
-    → is_hit (get_or states p state.Open) ≡ false
-    → AreLowestHits s (set states p x)
+    → is_hit (get_or states p state.Open) ≡ false → AreLowestHits s (set states p x)
     (set hits (class_of s p) (lowest_with (slice_index hits (class_of s p)) (block_of s p) x))
 lowest_set s states hits p x i l long none = go (is_hit x) refl
   where
@@ -171,8 +163,7 @@ lowest_set s states hits p x i l long none = go (is_hit x) refl
         subst (λ q. AreLowestHits s (set states q x) (set hits c (min (slice_index hits c) b))) at
         (hits_at s states hits c b x i within (hit_of s states hits p i l)
         (subst (λ q. q < length states) (sym at) (omega arith)) e)
-    go false e =
-        subst (AreLowestHits s (set states p x)) (sym (set_same hits c))
+    go false e = subst (AreLowestHits s (set states p x)) (sym (set_same hits c))
         (lowest-same s states hits p x i (omega arith) (e ∙ sym none))
 
 -- a piece that is held is no hit
@@ -228,8 +219,7 @@ pub lowest-new : (s : Shape) (n m : ℕ) → n ≡ min s.classes (piece_count s)
     → AreLowestHits s (replicate m state.Open) (replicate n (block_count s))
 lowest-new s n m e = record {
   long = length-replicated n (block_count s) ∙ e;
-  each = λ class k l few.
-      no_number class k l few
+  each = λ class k l few. no_number class k l few
       ∙ sym (any_none-below (λ b. is_hit (get_or (replicate m state.Open) (piece_at s class b)
       state.Open)) k (λ b o. ap is_hit (get-replicate m (piece_at s class b) state.Open)));
 }

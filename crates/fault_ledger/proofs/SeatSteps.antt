@@ -2,28 +2,22 @@
 use Rattle.std.proofs.Common.{◌≡◌, ℕ, zero, suc, ◌<◌, ◌≤◌, Bool, true, false, true≢false}
 use Rattle.std.proofs.Common.{if◌then◌else◌, eqb, eqb-true, eq-eqb, List, [], ◌∷◌, set}
 use Rattle.std.proofs.Common.{slice_index_or, Option, Some, None, refl, sym, ap, ◌∙◌, subst, arith}
-use Rattle.std.proofs.Common.{lt-ltb, le-ltb}
-use Rattle.std.proofs.lemmas.List.{get_or-set_other}
-use Rattle.patterns.specs.Tests.{size_of}
-use Rattle.patterns.specs.declared.Outcome.{Outcome}
-use Rattle.fault_ledger.specs.declared.Shape.{Shape}
-use Rattle.fault_ledger.specs.declared.Event.{Event}
-use Rattle.fault_ledger.specs.declared.shared.Remembered.{Remembered}
+use Rattle.std.proofs.{Common.{lt-ltb, le-ltb}, lemmas.List.get_or-set_other}
+use Rattle.patterns.specs.{Tests.size_of, declared.Outcome.Outcome}
+use Rattle.fault_ledger.specs.declared.{Shape.Shape, Event.Event, shared.Remembered.Remembered}
 use Rattle.fault_ledger.specs.declared.Refusal.TheVariants.{BadOutcome, NoSuchWorker, NoEarlierHit}
-use Rattle.fault_ledger.specs.declared.Claim.TheVariants as claim_is
-use Rattle.fault_ledger.specs.declared.Call.TheVariants as call
-use Rattle.fault_ledger.specs.declared.Reply.{Reply}
-use Rattle.fault_ledger.specs.declared.Reply.TheVariants.{Claimed, Done, Refused}
+use Rattle.fault_ledger.specs.declared.Reply.{Reply, TheVariants.{Claimed, Done, Refused}}
 use Rattle.fault_ledger.specs.History.{History, claims, held_by, piece_at, piece_count, class_of}
-use Rattle.fault_ledger.specs.History.{block_of, ContinuesWithout}
+use Rattle.fault_ledger.specs.{History.{block_of, ContinuesWithout}, Settled.AreClear}
 use Rattle.fault_ledger.specs.Answer.{answer, has_earlier_hit, is_hit, claim_reply, drop_reply}
 use Rattle.fault_ledger.specs.Answer.{IsLegal, fits_size, report_reply}
-use Rattle.fault_ledger.specs.Settled.{AreClear}
 use Rattle.fault_ledger.specs.Seats.{Sitter, IsSitter, Recalls, Remembers, nothing_seen, IsSeated}
 use Rattle.fault_ledger.specs.Seats.{Sees, Makes, FindsNoHit, Stays}
 use Rattle.fault_ledger.proofs.Histories.{claims_past, entry_past, entry_goes_on, held_goes_on}
 use Rattle.fault_ledger.proofs.Histories.{goes_on_twice, goes_on_same}
 use Rattle.fault_ledger.proofs.LegalHistories.{legal_claims, held_piece}
+use Rattle.fault_ledger.specs.declared.Claim.TheVariants as claim_is
+use Rattle.fault_ledger.specs.declared.Call.TheVariants as call
 
 claims_go_on : (w : ℕ) (later earlier : History) → ContinuesWithout w later earlier
     → claims earlier ≤ claims later
@@ -67,8 +61,7 @@ recalls_after s class known e h r = record {
 }
 
 pub remembers_sees : (a b : Sitter) (exhausted : Bool) (clear : List Remembered)
-    → Sees a exhausted b
-    → Remembers a clear → Remembers b clear
+    → Sees a exhausted b → Remembers a clear → Remembers b clear
 remembers_sees a b exhausted clear s r =
     let h = b.seen in
     subst (λ (x : Sitter). Remembers x clear) (sym s.seat)
@@ -77,8 +70,7 @@ remembers_sees a b exhausted clear s r =
 
 pub remembers_makes : (a b : Sitter) (e : Event) (reply : Reply) (clear : List Remembered)
     → Makes a e reply b → Remembers a clear → Remembers b clear
-remembers_makes a b e reply clear m r =
-    subst (λ (x : Sitter). Remembers x clear) (sym m.seat)
+remembers_makes a b e reply clear m r = subst (λ (x : Sitter). Remembers x clear) (sym m.seat)
     (λ class. let n = slice_index_or clear class nothing_seen in
     recalls_after a.place.shape class n e m.before
     (recalls_goes_on a.place.shape a.worker class n m.before a.seen m.newer (r class)))
@@ -99,15 +91,13 @@ remembers_set a clear class n r now other = go (eqb other class) refl
   where
     go : (b : Bool) → eqb other class ≡ b
         → Recalls a.place.shape a.seen other (slice_index_or (set clear class n) other nothing_seen)
-    go true e =
-        subst (λ k. Recalls a.place.shape a.seen k
+    go true e = subst (λ k. Recalls a.place.shape a.seen k
         (slice_index_or (set clear class n) k nothing_seen)) (sym (eqb-true other class e))
         (at_set (Recalls a.place.shape a.seen class) nothing_seen clear class n
         (nothing_recalled a.place.shape a.seen class) now)
     go false e =
         subst (Recalls a.place.shape a.seen other) (sym (get_or-set_other clear class other n
-        nothing_seen (λ q. true≢false (sym (eq-eqb other class q) ∙ e))))
-        (r other)
+        nothing_seen (λ q. true≢false (sym (eq-eqb other class q) ∙ e)))) (r other)
 
 -- a seat that sees more
 pub sitter_sees : (a b : Sitter) → IsSitter a → Sees a a.exhausted b → IsSitter b
@@ -125,8 +115,7 @@ sitter_sees a b i s =
 
 pub seated_sees : (a b : Sitter) (worker : ℕ) (exhausted : Bool) (classes : ℕ) (piece : Option ℕ)
     (clear : List Remembered) → IsSeated a worker exhausted classes piece clear
-    → Sees a a.exhausted b
-    → IsSeated b worker exhausted classes piece clear
+    → Sees a a.exhausted b → IsSeated b worker exhausted classes piece clear
 seated_sees a b worker exhausted classes piece clear i s = record {
   sitter = sitter_sees a b i.sitter s;
   worker_is = i.worker_is ∙ ap (λ (x : Sitter). x.worker) (sym s.seat);
@@ -163,8 +152,7 @@ seated_ends a b worker exhausted classes piece clear i none s all =
 -- a seat that holds a piece has not got Exhausted
 pub untold : (a : Sitter) (worker : ℕ) (exhausted : Bool) (classes : ℕ) (piece : Option ℕ)
     (clear : List Remembered) (p : ℕ) → IsSeated a worker exhausted classes piece clear → piece
-    ≡ Some p
-    → a.exhausted ≡ false
+    ≡ Some p → a.exhausted ≡ false
 untold a worker exhausted classes piece clear p i e = go a.exhausted refl
   where
     go : (b : Bool) → a.exhausted ≡ b → b ≡ false
@@ -173,8 +161,7 @@ untold a worker exhausted classes piece clear p i e = go a.exhausted refl
 
 -- a seat after an event of its own
 pub seated_makes : (a b : Sitter) (e : Event) (r : Reply) (worker : ℕ) (exhausted : Bool) (classes
-    : ℕ)
-    (piece now : Option ℕ) (clear : List Remembered)
+    : ℕ) (piece now : Option ℕ) (clear : List Remembered)
     → IsSeated a worker exhausted classes piece clear → a.exhausted ≡ false → Makes a e r b
     → held_by a.worker b.seen ≡ now → IsSeated b worker exhausted classes now clear
 seated_makes a b e r worker exhausted classes piece now clear i free m holds =
@@ -196,8 +183,7 @@ seated_makes a b e r worker exhausted classes piece now clear i free m holds =
 -- after a report or a drop it holds nothing
 pub reported_free : (a b : Sitter) (o : Outcome) (r : Reply) → Makes a (Event.Report a.worker o) r b
     → held_by a.worker b.seen ≡ None
-reported_free a b o r m =
-    ap (λ (x : Sitter). held_by a.worker x.seen) m.seat
+reported_free a b o r m = ap (λ (x : Sitter). held_by a.worker x.seen) m.seat
     ∙ ap (λ y. if y then None else held_by a.worker m.before) (eq-eqb a.worker a.worker refl)
 
 -- a report of a hit at a test that the piece's block hasn't is no step
@@ -216,15 +202,13 @@ reported_badly a p o i holds bad =
 
 pub dropped_free : (a b : Sitter) (r : Reply) → Makes a (Event.Drop a.worker) r b
     → held_by a.worker b.seen ≡ None
-dropped_free a b r m =
-    ap (λ (x : Sitter). held_by a.worker x.seen) m.seat
+dropped_free a b r m = ap (λ (x : Sitter). held_by a.worker x.seen) m.seat
     ∙ ap (λ y. if y then None else held_by a.worker m.before) (eq-eqb a.worker a.worker refl)
 
 -- a piece that a seat holds is one of the pieces
 pub seated_piece : (a : Sitter) (worker : ℕ) (exhausted : Bool) (classes : ℕ) (piece : Option ℕ)
     (clear : List Remembered) (p : ℕ) → IsSeated a worker exhausted classes piece clear → piece
-    ≡ Some p
-    → p < piece_count a.place.shape
+    ≡ Some p → p < piece_count a.place.shape
 seated_piece a worker exhausted classes piece clear p i e =
     held_piece a.place.shape a.worker p a.seen i.sitter.legal (sym i.piece_is ∙ e)
 

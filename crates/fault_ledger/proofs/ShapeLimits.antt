@@ -3,11 +3,9 @@ use Rattle.std.proofs.Common.{◌≡◌, ℕ, zero, suc, ◌*◌, ◌<◌, ◌�
 use Rattle.std.proofs.Common.{if◌then◌else◌, nat_lt, Some, None, refl, arith}
 use borrow.Author.Tests.{ltb-false}
 use Rattle.patterns.specs.Tests.{max_pieces}
-use Rattle.fault_ledger.specs.declared.Shape.{Shape}
+use Rattle.fault_ledger.specs.declared.{Shape.Shape, LedgerFault.TheVariants.TooManyPieces}
 use Rattle.fault_ledger.specs.declared.LedgerFault.TheVariants.{NoWorkers, TooManyWorkers}
-use Rattle.fault_ledger.specs.declared.LedgerFault.TheVariants.{TooManyPieces}
-use Rattle.fault_ledger.specs.History.{block_count, piece_count}
-use Rattle.fault_ledger.specs.Face.{shape_fault}
+use Rattle.fault_ledger.specs.{History.{block_count, piece_count}, Face.shape_fault}
 
 pub shape_small : (s : Shape) → shape_fault s ≡ None
     → (piece_count s ≤ max_pieces) × (s.workers ≤ 64)

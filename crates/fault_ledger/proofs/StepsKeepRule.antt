@@ -3,39 +3,29 @@ use Rattle.std.proofs.Common.{◌≡◌, ◌≢◌, ℕ, ◌+◌, ◌^◌, ◌%�
 use Rattle.std.proofs.Common.{false, if◌then◌else◌, eqb, List, [], ◌∷◌, ◌++◌, set, length}
 use Rattle.std.proofs.Common.{slice_index, bit_or, Some, None, refl, sym, ap, ◌∙◌, subst, arith}
 use Rattle.std.proofs.Common.{eq-eqb, length-set, get_or-set_other, get_or-set_same, mod-eq_of_lt}
-use Rattle.std.proofs.Math.Nat.{min-eq_left, min-eq_right}
+use Rattle.std.proofs.{Math.Nat.{min-eq_left, min-eq_right}, lemmas.Bool.ltb-true}
 use native.Mathlib.Decide.{dec_lt, ℕ_discrete}
-use mathlib.Core.Option.{some, none}
-use mathlib.Core.Logic.{dite}
-use Rattle.std.proofs.lemmas.Bool.{ltb-true}
+use mathlib.Core.{Option.{some, none}, Logic.dite}
 use lib.ListN.{get_elem?}
 use Rattle.atomic_table.specs.Table.{State, Me, step, Act, keeps, Valid, stepped, carried_after}
 use Rattle.atomic_table.specs.Table.{Allows}
-use Rattle.patterns.specs.declared.Outcome.{Outcome}
+use Rattle.patterns.specs.{declared.Outcome.Outcome, Tests.{size_of, max_pieces}}
 use Rattle.patterns.specs.declared.Outcome.TheVariants as outcome
-use Rattle.patterns.specs.Tests.{size_of, max_pieces}
-use Rattle.fault_ledger.specs.declared.Shape.{Shape}
-use Rattle.fault_ledger.specs.declared.PieceState.{PieceState}
-use Rattle.fault_ledger.specs.declared.PieceState.TheVariants as state
-use Rattle.fault_ledger.specs.declared.Event.{Event}
-use Rattle.fault_ledger.specs.declared.Call.TheVariants as call
-use Rattle.fault_ledger.specs.declared.words.View.{View}
+use Rattle.fault_ledger.specs.declared.{Shape.Shape, PieceState.PieceState, Event.Event}
+use Rattle.fault_ledger.specs.{declared.words.View.View, History.{held_by, holds, entry}}
 use Rattle.fault_ledger.specs.History.{History, piece_count, block_of, worker_of, state_of, claims}
-use Rattle.fault_ledger.specs.History.{held_by, holds, entry}
 use Rattle.fault_ledger.specs.Answer.{fits_size, has_earlier_hit, events_of, after, call_of}
 use Rattle.fault_ledger.specs.Words.{code_of, field, field_in, in_field, word_with, total, times}
-use Rattle.fault_ledger.specs.Words.{exhausted_of, ForEach, Knows, IsKeptBy, IsKept}
-use Rattle.fault_ledger.specs.Words.{one, post, Claims}
-use Rattle.fault_ledger.specs.Words.{Reports, Drops}
+use Rattle.fault_ledger.specs.Words.{exhausted_of, ForEach, Knows, IsKeptBy, IsKept, one, post}
+use Rattle.fault_ledger.{specs.Words.{Claims, Reports, Drops}, proofs.Histories.goes_on_same}
 use Rattle.fault_ledger.proofs.Histories.{held_goes_on, held-holds, held_open, holds-not}
-use Rattle.fault_ledger.proofs.Histories.{goes_on_same}
 use Rattle.fault_ledger.proofs.SumsOverViews.{total-two, total-mono, exhausted-length, times-none}
-use Rattle.fault_ledger.proofs.SumsOverViews.{for_each, set_known}
+use Rattle.fault_ledger.proofs.{SumsOverViews.{for_each, set_known}, ShapeLimits.shape_small}
 use Rattle.fault_ledger.proofs.Acceptance.{claim_answer, report_answer, drop_answer, hit_goes_on}
-use Rattle.fault_ledger.proofs.LoadsKeepRule.{same_total, look_keeps}
-use Rattle.fault_ledger.proofs.ShapeLimits.{shape_small}
+use Rattle.fault_ledger.proofs.{LoadsKeepRule.{same_total, look_keeps}, WordFields.marked_cursor}
 use Rattle.fault_ledger.proofs.WordFields.{sum_is_or, marked_words, marked_here, marked_else}
-use Rattle.fault_ledger.proofs.WordFields.{marked_cursor}
+use Rattle.fault_ledger.specs.declared.PieceState.TheVariants as state
+use Rattle.fault_ledger.specs.declared.Call.TheVariants as call
 
 -- the condition of `Allows` at one state
 abbrev Goes : {S : Type 0} → Shape → State S View → ℕ → Me S View → ℕ → (ℕ → ℕ)
@@ -67,11 +57,7 @@ others_know s h e u =
     (λ p a k. record {
       same = k.same;
       among = k.among;
-      newer = (
-        e ∷ k.newer.0,
-        ap (λ l. e ∷ l) k.newer.1,
-        ((λ q. a (sym q)), k.newer.2),
-      );
+      newer = (e ∷ k.newer.0, ap (λ l. e ∷ l) k.newer.1, ((λ q. a (sym q)), k.newer.2));
       done = k.done;
     })
 
@@ -96,8 +82,7 @@ module _ (s : Shape) (h : History) (words : List ℕ) (views : List View)
 
   -- the rule after one event of the worker
   event_keeps : exhausted ≡ false → (e : Event) (now : List ℕ) → worker_of e ≡ w
-      → after s h (call_of e) ≡ e ∷ h
-      → length now ≡ length words
+      → after s h (call_of e) ≡ e ∷ h → length now ≡ length words
       → ((p : ℕ) → p < piece_count s → field_in now p ≡ code_of (entry p (e ∷ h)))
       → claims (e ∷ h) ≡ min (slice_index now 0) (piece_count s)
       → slice_index now 0 ≤ piece_count s + total (λ v. exhausted_of v.posts) views
@@ -177,8 +162,7 @@ module _ {S : Type 0} (s : Shape) (slots id w : ℕ) (seen : History) (out : Lis
               (length-set t.words 0 ((n + 1) % 2 ^ 64))
               (λ p l. ap (λ x. field x (p % 8)) (get_or-set_other t.words 0 (word_with p)
               ((n + 1) % 2 ^ 64) 0 (λ q. absurd (omega arith))) ∙ kept.marked p l)
-              (ap (λ k. k + 1) counted ∙ sym first ∙ sym (min-eq_left (omega arith)))
-              (omega arith),
+              (ap (λ k. k + 1) counted ∙ sym first ∙ sym (min-eq_left (omega arith))) (omega arith),
         ),
         (refl, (h, mine.newer, inl (below, counted, (accepts, kept.legal), refl))),
       )
@@ -207,10 +191,7 @@ module _ {S : Type 0} (s : Shape) (slots id w : ℕ) (seen : History) (out : Lis
               (length-set t.words 0 ((n + 1) % 2 ^ 64))
               (λ p l. ap (λ x. field x (p % 8)) (get_or-set_other t.words 0 (word_with p)
               ((n + 1) % 2 ^ 64) 0 (λ q. absurd (omega arith))) ∙ kept.marked p l)
-              (counted ∙ sym (min-eq_right (omega arith)))
-              (omega arith)
-              refl
-              (λ x. refl) (
+              (counted ∙ sym (min-eq_right (omega arith))) (omega arith) refl (λ x. refl) (
                 record {
                   same = refl;
                   among = mine.among;
@@ -226,8 +207,7 @@ module _ {S : Type 0} (s : Shape) (slots id w : ℕ) (seen : History) (out : Lis
 
   pub claims_allowed : Allows (IsKept s) slots id me 0 (λ n. (n + 1) % 2 ^ 64)
       (Claims (step slots 0 1 0 none) me)
-  claims_allowed t kept homes at fits =
-      dite (dec_lt (slice_index t.words 0) (piece_count s))
+  claims_allowed t kept homes at fits = dite (dec_lt (slice_index t.words 0) (piece_count s))
       (λ below. claims_more t kept.0 kept.1 at below)
       (λ n. claims_none t kept.0 kept.1 at (omega arith))
 
@@ -237,8 +217,7 @@ made : (p q : ℕ) (h : History) (w : ℕ) (words : List ℕ) (x now : PieceStat
     → field_in words p ≡ code_of (entry p h) → field_in words q ≡ code_of (entry q h)
     → now ≡ (if holds w q h then x else entry q h)
     → field_in (marked_words words p (code_of x)) q ≡ code_of now
-made p q h w words x now here long small mine was is =
-    dite (ℕ_discrete p q)
+made p q h w words x now here long small mine was is = dite (ℕ_discrete p q)
     (λ e. let same : now ≡ x = is
     ∙ ap (λ b. if b then x else entry q h) (held-holds w q h (here ∙ ap Some e)) in
     subst (λ n. field_in (marked_words words p (code_of x)) n ≡ code_of now) e (marked_here words p
@@ -261,11 +240,9 @@ module _ {S : Type 0} (s : Shape) (slots id w p : ℕ) (exhausted : Bool) (seen 
 
   settles : (e : Event) (x : PieceState) (t : State S View) (h : History)
       (kept : IsKeptBy s h t.words t.views) → get_elem? t.views id ≡ some me'.0 → worker_of e ≡ w
-      → after s h (call_of e) ≡ e ∷ h
-      → claims (e ∷ h) ≡ claims h
+      → after s h (call_of e) ≡ e ∷ h → claims (e ∷ h) ≡ claims h
       → ((q : ℕ) → entry q (e ∷ h) ≡ (if holds w q h then x else entry q h)) → p < piece_count s
-      → code_of x < 256
-      → IsKeptBy s (e ∷ h) (marked_words t.words p (code_of x))
+      → code_of x < 256 → IsKeptBy s (e ∷ h) (marked_words t.words p (code_of x))
       (set t.views id (one s w exhausted (e ∷ h)))
   settles e x t h kept at by accepts same entries below small =
       let now = marked_words t.words p (code_of x) in
@@ -355,8 +332,7 @@ module _ {S : Type 0} (s : Shape) (slots id w p : ℕ) (exhausted : Bool) (seen 
       → Allows (IsKept s) slots id me' (word_with p)
       (λ n. (n + in_field p (code_of (state_of o))) % 2 ^ 64)
       (Reports (step slots (word_with p) (in_field p (code_of (state_of o))) 0 none) me')
-  reports_allowed o below fits =
-      by_sum (code_of (state_of o))
+  reports_allowed o below fits = by_sum (code_of (state_of o))
       (Reports (step slots (word_with p) (in_field p (code_of (state_of o))) 0 none) me') below
       (fits_small o (size_of s.tests (block_of s p)) fits (omega arith))
       (reports_by_or o below fits)

@@ -5,11 +5,8 @@ use Rattle.std.proofs.Common.{arith, eq-eqb}
 use mathlib.Core.Option.{some, some-injective, some-ne-none}
 use lib.ListN.{get_elem?}
 use Rattle.atomic_table.proofs.Lists.{at_set}
-use Rattle.fault_ledger.specs.declared.Shape.{Shape}
-use Rattle.fault_ledger.specs.declared.words.Post.{Post}
-use Rattle.fault_ledger.specs.declared.words.View.{View}
-use Rattle.fault_ledger.specs.History.{History}
-use Rattle.fault_ledger.specs.Words.{total, times, exhausted_of, ForEach, Knows}
+use Rattle.fault_ledger.specs.declared.{Shape.Shape, words.Post.Post, words.View.View}
+use Rattle.fault_ledger.specs.{History.History, Words.{total, times, exhausted_of, ForEach, Knows}}
 
 pub total-set : (f : View → ℕ) (vs : List View) (i : ℕ) (v w : View) → get_elem? vs i ≡ some v
     → total f (set vs i w) + f v ≡ total f vs + f w
@@ -78,8 +75,6 @@ pub set_known : (s : Shape) (h : History) (views : List View) (id : ℕ) (w : Vi
     → ForEach (Knows s h u.shape) u.posts) → ForEach (Knows s h w.shape) w.posts
     → (j : ℕ) (u : View) → get_elem? (set views id w) j ≡ some u
     → ForEach (Knows s h u.shape) u.posts
-set_known s h views id w others mine j u e =
-    ⊎_elim
+set_known s h views id w others mine j u e = ⊎_elim
     (λ (x : (j ≡ id) × (w ≡ u)). subst (λ (v : View). ForEach (Knows s h v.shape) v.posts) x.1 mine)
-    (λ (x : (j ≢ id) × (get_elem? views j ≡ some u)). others j u x.0 x.1)
-    (at_set views id j w u e)
+    (λ (x : (j ≢ id) × (get_elem? views j ≡ some u)). others j u x.0 x.1) (at_set views id j w u e)

@@ -1,14 +1,9 @@
 -- A token of a ledger as a table seat, and the seat as a token again.
 use Rattle.std.proofs.Common.{◌≡◌, ℕ, Bool, List, [], ◌∷◌, sym, ap, ◌∙◌}
-use Rattle.atomic_table.specs.Seated.{TableId}
-use Rattle.atomic_table.specs.Table.{Me}
-use Rattle.atomic_table.specs.declared.badge.Badge.{Badge}
-use Rattle.fault_ledger.specs.declared.Shape.{Shape}
-use Rattle.fault_ledger.specs.declared.words.View.{View}
-use Rattle.fault_ledger.specs.History.{History}
-use Rattle.fault_ledger.specs.Seats.{Place, Sitter, sitter_at}
+use Rattle.atomic_table.specs.{Seated.TableId, Table.Me, declared.badge.Badge.Badge}
+use Rattle.fault_ledger.specs.{declared.Shape.Shape, declared.words.View.View, History.History}
+use Rattle.fault_ledger.{specs.Seats.{Place, Sitter, sitter_at}, proofs.TokenViews.token_me}
 use Rattle.fault_ledger.specs.Words.{one, place_of, sitter, StandsAlone}
-use Rattle.fault_ledger.proofs.TokenViews.{token_me}
 
 -- the table t and the view and slots of the table seat that a token became, which is of the ledger
 -- with this table and shape
@@ -38,8 +33,7 @@ taken {shape} {table} {place} {a} {old} {views} me is alone at here same seat =
 pub put_back : {shape : Shape} {table : TableId} {a : Sitter} {t : TableId} {me : Me ℕ View}
     → Taken shape table a t me
     → (exhausted : Bool) (h : History) {now_t : TableId} (now : Me ℕ View) (b : Badge View)
-    → now_t ≡ t
-    → now.0 ≡ one shape a.worker exhausted h → b.table_id ≡ now_t → b.views ≡ now.0 ∷ []
+    → now_t ≡ t → now.0 ≡ one shape a.worker exhausted h → b.table_id ≡ now_t → b.views ≡ now.0 ∷ []
     → sitter b.table_id b.views ≡ sitter_at a exhausted h
 put_back {shape} {table} {a} taken exhausted h now b same is table_of views_of =
     let x : b.table_id ≡ table = table_of ∙ same ∙ taken.table_is in

@@ -1,30 +1,20 @@
 -- The result of each step of a token.
 use Rattle.std.proofs.Common.{◌≡◌, ℕ, ◌+◌, ◌-◌, ◌*◌, ◌^◌, ◌%◌, ◌<◌, true, false, [], ◌∷◌, Some}
-use Rattle.std.proofs.Common.{None, refl, sym, ap, ◌∙◌, subst, arith}
-use Rattle.std.proofs.Math.Nat.{min-le_left}
+use Rattle.std.proofs.{Common.{None, refl, sym, ap, ◌∙◌, subst, arith}, Math.Nat.min-le_left}
 use mathlib.Core.Option.{none}
-use Rattle.atomic_table.specs.Seated.{TableId}
-use Rattle.atomic_table.specs.Table.{Me, step, Allows}
-use Rattle.atomic_table.specs.declared.badge.Badge.{Badge}
-use Rattle.patterns.specs.declared.Outcome.{Outcome}
+use Rattle.atomic_table.specs.{Seated.TableId, Table.{Me, step, Allows}, declared.badge.Badge.Badge}
+use Rattle.patterns.specs.{declared.Outcome.Outcome, Tests.size_of}
 use Rattle.patterns.specs.declared.Outcome.TheVariants as outcome
-use Rattle.patterns.specs.Tests.{size_of}
-use Rattle.fault_ledger.specs.declared.Shape.{Shape}
-use Rattle.fault_ledger.specs.declared.Event.{Event}
-use Rattle.fault_ledger.specs.declared.Reply.TheVariants.{Done}
-use Rattle.fault_ledger.specs.declared.words.View.{View}
+use Rattle.fault_ledger.specs.declared.{Shape.Shape, Event.Event, Reply.TheVariants.Done}
+use Rattle.fault_ledger.specs.{declared.words.View.View, Seats.{Place, Sitter, sitter_at, Makes}}
 use Rattle.fault_ledger.specs.History.{History, piece_count, block_of, state_of, held_by, entry}
 use Rattle.fault_ledger.specs.Answer.{fits_size, has_earlier_hit, answer, call_of, IsLegal}
-use Rattle.fault_ledger.specs.Seats.{Place, Sitter, sitter_at, Makes}
 use Rattle.fault_ledger.specs.Words.{code_of, word_with, field, in_field, state_at, one, post}
 use Rattle.fault_ledger.specs.Words.{IsKept, Adds, Claims, Reports, Drops, Looks, sitter}
-use Rattle.fault_ledger.proofs.LegalHistories.{legal_hit}
-use Rattle.fault_ledger.proofs.Acceptance.{report_answered, drop_answered}
-use Rattle.fault_ledger.proofs.LoadsKeepRule.{looks_allowed}
+use Rattle.fault_ledger.proofs.{LegalHistories.legal_hit, LoadsKeepRule.looks_allowed}
+use Rattle.fault_ledger.proofs.{Acceptance.{report_answered, drop_answered}, FieldCodes.decoded}
 use Rattle.fault_ledger.proofs.StepsKeepRule.{claims_allowed, reports_allowed, drops_allowed}
-use Rattle.fault_ledger.proofs.TokenAsSeat.{Taken, put_back}
-use Rattle.fault_ledger.proofs.FieldCodes.{decoded}
-use Rattle.fault_ledger.proofs.WordFields.{same_field}
+use Rattle.fault_ledger.proofs.{TokenAsSeat.{Taken, put_back}, WordFields.same_field}
 
 -- in a legal history each state can be read back from its word
 pub legal_decoded : (s : Shape) (p : ℕ) (h : History) → IsLegal s h
@@ -44,8 +34,7 @@ module _ {shape : Shape} {table : TableId} {a : Sitter} {t : TableId} {me : Me �
     (is : Taken shape table a t me) where
   pub look_allowed : (slots id i : ℕ)
       → Allows (IsKept shape) slots id me i (λ n. n) (Looks (step slots i 0 0 none) me)
-  look_allowed slots id i =
-      subst (λ (m : Me ℕ View). Allows (IsKept shape) slots id m i (λ n. n)
+  look_allowed slots id i = subst (λ (m : Me ℕ View). Allows (IsKept shape) slots id m i (λ n. n)
       (Looks (step slots i 0 0 none) m)) (sym is.me_is)
       (looks_allowed shape slots id i shape (post a.worker a.exhausted a.seen) [] [])
 
@@ -63,8 +52,7 @@ module _ {shape : Shape} {table : TableId} {a : Sitter} {t : TableId} {me : Me �
 
   pub claim_allowed : (slots id : ℕ) → a.exhausted ≡ false → held_by a.worker a.seen ≡ None → Allows
       (IsKept shape) slots id me 0 (λ n. (n + 1) % 2 ^ 64) (Claims (step slots 0 1 0 none) me)
-  claim_allowed slots id untold free =
-      subst (λ (m : Me ℕ View). Allows (IsKept shape) slots id m 0
+  claim_allowed slots id untold free = subst (λ (m : Me ℕ View). Allows (IsKept shape) slots id m 0
       (λ n. (n + 1) % 2 ^ 64) (Claims (step slots 0 1 0 none) m))
       (sym (is.me_is ∙ ap (λ x. (one shape a.worker x a.seen, [])) untold))
       (claims_allowed shape slots id a.worker a.seen [] free)
@@ -105,8 +93,7 @@ module _ {shape : Shape} {table : TableId} {a : Sitter} {t : TableId} {me : Me �
   pub report_done : (slots p i k n : ℕ) (o : Outcome) {now_t : TableId} (now : Me ℕ View)
       (b : Badge View) → held_by a.worker a.seen ≡ Some p → k ≡ in_field p (code_of (state_of o))
       → now_t ≡ t → Reports (step slots i k 0 none) me n now → b.table_id ≡ now_t
-      → b.views ≡ now.0 ∷ []
-      → Makes a (Event.Report a.worker o) Done (sitter b.table_id b.views)
+      → b.views ≡ now.0 ∷ [] → Makes a (Event.Report a.worker o) Done (sitter b.table_id b.views)
   report_done slots p i k n o now b holding bits same reports table_of views_of =
       let r : Reports (step slots i k 0 none) (one shape a.worker a.exhausted a.seen, []) n now =
       subst (λ (m : Me ℕ View). Reports (step slots i k 0 none) m n now) is.me_is reports in

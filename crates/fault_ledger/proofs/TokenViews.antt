@@ -1,9 +1,7 @@
 -- The meaning of a token's views for the table seat that it becomes.
 use Rattle.std.proofs.Common.{◌≡◌, ℕ, List, [], ◌∷◌, sym, ◌∙◌}
 use Rattle.atomic_table.specs.Table.{Me}
-use Rattle.fault_ledger.specs.declared.words.View.{View}
-use Rattle.fault_ledger.specs.Seats.{Sitter}
-use Rattle.fault_ledger.specs.Words.{one, StandsAlone}
+use Rattle.fault_ledger.specs.{declared.words.View.View, Seats.Sitter, Words.{one, StandsAlone}}
 
 -- the table seat of a token that stands for one worker
 pub token_me : (views : List View) (a : Sitter) (me : Me ℕ View) → StandsAlone views a

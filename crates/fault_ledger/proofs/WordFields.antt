@@ -27,10 +27,8 @@ below c i j l =
     let e : 8 * i ≡ (8 * k + 8) + 8 * j = omega arith in
     let powers : 2 ^ ((8 * k + 8) + 8 * j) ≡ (2 ^ (8 * k) * 2 ^ 8) * 2 ^ (8 * j) =
     pow-add 2 (8 * k + 8) (8 * j) ∙ ap (λ x. x * 2 ^ (8 * j)) (pow-add 2 (8 * k) 8) in
-    let p : c * 2 ^ (8 * i) ≡ ((c * 2 ^ (8 * k)) * 2 ^ 8) * 2 ^ (8 * j) =
-    ap (λ x. c * 2 ^ x) e
-    ∙ ap (λ x. c * x) powers
-    ∙ sym (mul_assoc c (2 ^ (8 * k) * 2 ^ 8) (2 ^ (8 * j)))
+    let p : c * 2 ^ (8 * i) ≡ ((c * 2 ^ (8 * k)) * 2 ^ 8) * 2 ^ (8 * j) = ap (λ x. c * 2 ^ x) e
+    ∙ ap (λ x. c * x) powers ∙ sym (mul_assoc c (2 ^ (8 * k) * 2 ^ 8) (2 ^ (8 * j)))
     ∙ ap (λ x. x * 2 ^ (8 * j)) (sym (mul_assoc c (2 ^ (8 * k)) (2 ^ 8))) in
     ap (λ x. field x j) p
     ∙ ap (λ x. x % 2 ^ 8) (mul-div_cancel ((c * 2 ^ (8 * k)) * 2 ^ 8) (pow_pos (8 * j)))
@@ -38,8 +36,7 @@ below c i j l =
 
 -- a field of which only the lowest bits are set is below the next
 pub under : (c i : ℕ) → c < 256 → c * 2 ^ (8 * i) < 2 ^ (8 + 8 * i)
-under c i l =
-    subst (λ x. c * 2 ^ (8 * i) < x) (sym (pow-add 2 8 (8 * i)))
+under c i l = subst (λ x. c * 2 ^ (8 * i) < x) (sym (pow-add 2 8 (8 * i)))
     (mul-lt-mul_of_pos_right l (pow_pos (8 * i)))
 
 above : (c i j : ℕ) → c < 256 → i < j → field (c * 2 ^ (8 * i)) j ≡ 0
@@ -53,10 +50,8 @@ or_here n c i l free =
     or_field n (c * 2 ^ (8 * i)) i ∙ (λ k. bit_or (free k) (here c i l k)) ∙ or_zero_l c
 
 or_else : (n c i j : ℕ) → c < 256 → i ≢ j → field (bit_or n (c * 2 ^ (8 * i))) j ≡ field n j
-or_else n c i j l apart =
-    or_field n (c * 2 ^ (8 * i)) j
-    ∙ ap (bit_or (field n j)) (nothing (dec_lt i j))
-    ∙ or_zero_r (field n j)
+or_else n c i j l apart = or_field n (c * 2 ^ (8 * i)) j
+    ∙ ap (bit_or (field n j)) (nothing (dec_lt i j)) ∙ or_zero_r (field n j)
   where
     nothing : Dec (i < j) → field (c * 2 ^ (8 * i)) j ≡ 0
     nothing (yes k) = above c i j l k
@@ -94,9 +89,7 @@ sum_is_or n p c wide small free =
 pub same_field : (p a b : ℕ) → in_field p a ≡ in_field p b → a ≡ b
 same_field p a b e =
     let positive = pow_pos (8 * (p % 8)) in
-    sym (mul-div_cancel a positive)
-    ∙ ap (λ x. x / 2 ^ (8 * (p % 8))) e
-    ∙ mul-div_cancel b positive
+    sym (mul-div_cancel a positive) ∙ ap (λ x. x / 2 ^ (8 * (p % 8))) e ∙ mul-div_cancel b positive
 
 -- the words after an `or` on the field of a piece
 abbrev pub marked_words : List ℕ → ℕ → ℕ → List ℕ
@@ -129,12 +122,10 @@ marked_else words p q c long small apart = dite (ℕ_discrete (p / 8) (q / 8)) s
         subst (λ x. slice_index now (x + 1) ≡ new) e set_now in
         ap (λ x. field x (q % 8)) at
         ∙ or_else (slice_index words (word_with p)) c (p % 8) (q % 8) small
-        (λ r. apart (omega arith))
-        ∙ ap (λ x. field (slice_index words (x + 1)) (q % 8)) e
+        (λ r. apart (omega arith)) ∙ ap (λ x. field (slice_index words (x + 1)) (q % 8)) e
 
     other_word : p / 8 ≢ q / 8 → field_in now q ≡ field_in words q
-    other_word m =
-        ap (λ x. field x (q % 8))
+    other_word m = ap (λ x. field x (q % 8))
         (get_or-set_other words (word_with p) (word_with q) new 0 (λ r. m (omega arith)))
 
 -- the cursor stays

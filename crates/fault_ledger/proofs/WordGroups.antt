@@ -3,23 +3,13 @@ use Rattle.std.proofs.Common.{◌≡◌, ℕ, zero, suc, ◌<◌, ◌∷◌, [],
 use Rattle.std.proofs.Common.{replicate, refl, sym, ap, ◌∙◌, subst, arith}
 use mathlib.Core.Option.{some, some-injective, some-ne-none}
 use lib.ListN.{get_elem?}
-use Rattle.patterns.specs.Least.{below}
-use Rattle.atomic_table.specs.Seated.{TableId}
-use Rattle.patterns.specs.Tests.{size_of}
-use Rattle.atomic_table.specs.Table.{Final, Seen}
-use Rattle.fault_ledger.specs.declared.Shape.{Shape}
-use Rattle.fault_ledger.specs.declared.PieceState.{PieceState}
-use Rattle.fault_ledger.specs.declared.words.View.{View}
+use Rattle.patterns.{specs.Least.below, specs.Tests.size_of, proofs.Public.map-below_same}
+use Rattle.atomic_table.specs.{Seated.TableId, Table.{Final, Seen}}
+use Rattle.fault_ledger.specs.declared.{Shape.Shape, PieceState.PieceState, words.View.View}
 use Rattle.fault_ledger.specs.History.{History, ContinuesWithout, piece_count, block_of, entry}
-use Rattle.fault_ledger.specs.History.{states_of}
-use Rattle.fault_ledger.specs.Answer.{IsLegal}
-use Rattle.fault_ledger.specs.Seats.{Place}
+use Rattle.fault_ledger.specs.{History.states_of, Answer.IsLegal, Seats.Place, Words.state_at}
 use Rattle.fault_ledger.specs.Words.{Crowd, crowd, place_of, IsKept, Knows, ForEach, field_in}
-use Rattle.fault_ledger.specs.Words.{state_at}
-use Rattle.patterns.proofs.Public.{map-below_same}
-use Rattle.fault_ledger.proofs.SumsOverViews.{for_all}
-use Rattle.fault_ledger.proofs.LegalHistories.{legal_hit}
-use Rattle.fault_ledger.proofs.FieldCodes.{decoded}
+use Rattle.fault_ledger.proofs.{SumsOverViews.for_all, LegalHistories.legal_hit, FieldCodes.decoded}
 
 -- a group of the ledger stands at the ledger's table, and its view has the ledger's shape
 pub group_place : (t u : TableId) (s : Shape) (v : View) (g : Crowd) (p : Place) → crowd t v ≡ g
@@ -60,8 +50,7 @@ closes s id v g words slots states f same is =
           (for_all (Knows s h v.shape) (λ p. ContinuesWithout p.worker h p.seen) v.posts
           (λ p k. k.newer) (kept.known id v f.1.1)),
       is ∙ map-below_same (λ piece. state_at (field_in words piece)) (λ piece. entry piece h)
-          (piece_count s)
-          (λ p l. ap (λ ws. state_at (field_in ws p)) (sym f.2)
+          (piece_count s) (λ p l. ap (λ ws. state_at (field_in ws p)) (sym f.2)
           ∙ ap state_at (kept.marked p l) ∙ decoded (entry p h)
           (λ k e. below_64 k s.tests (block_of s p) (legal_hit s p k h kept.legal e))),
     )

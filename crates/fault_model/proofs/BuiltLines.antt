@@ -1,20 +1,16 @@
 -- Building the list of lines, one signal after the other.
 use Rattle.std.proofs.Common.{◌≡◌, ◌<◌, ◌≤◌, ℕ, zero, suc, ◌+◌, refl, sym, ◌∙◌, ap, subst, List, []}
 use Rattle.std.proofs.Common.{◌∷◌, ◌++◌, length, take, arith, inl, inr, ◌⊎◌, length-append}
-use Rattle.std.proofs.Common.{append_assoc, append-nil}
+use Rattle.std.{proofs.Common.{append_assoc, append-nil}, specs.List.enumerate_from}
 use Rattle.std.specs.Prelude.{Option, Some, None, slice_get, map, flat_map, option_and_then}
-use Rattle.std.specs.List.{enumerate_from}
-use Rattle.bench_net.specs.Statement.{Name, Statement}
-use Rattle.bench_net.specs.Scan.{names}
+use Rattle.bench_net.specs.{Statement.{Name, Statement}, Scan.names}
 use Rattle.bench_net.specs.Circuit.{IsCircuit, max_signals, max_sinks}
 use Rattle.list_lemmas.proofs.Members.{Among, among, joined_from, mapped_from}
 use Rattle.list_lemmas.proofs.Places.{numbered_at, place_within}
-use Rattle.fault_model.specs.declared.Line.{Line}
-use Rattle.fault_model.specs.declared.Line.TheVariants as line
-use Rattle.fault_model.specs.Fault.{branch, branches}
-use Rattle.fault_model.specs.Lines.{AreStemsOf}
+use Rattle.fault_model.specs.{declared.Line.Line, Fault.{branch, branches}, Lines.AreStemsOf}
 use Rattle.fault_model.proofs.FaultLines.{lines_of, lines, branch_no_stem, lines_within}
 use Rattle.fault_model.proofs.FrontParts.{at_front, at_end, below_or_at}
+use Rattle.fault_model.specs.declared.Line.TheVariants as line
 
 -- the lines of the first signals
 abbrev pub lines_below : List Statement → ℕ → List Line
@@ -32,8 +28,7 @@ joined_more : {X Y : Type 0} (f : X → List Y) (xs : List X) (k : ℕ) (x : X)
     → slice_get xs k ≡ Some x → flat_map f (take (suc k) xs) ≡ flat_map f (take k xs) ++ f x
 joined_more f [] k x e = let bad : None ≡ Some x = e in cc
 joined_more f (y ∷ xs) zero x e = let same : y ≡ x = cc in simp (same, append-nil (f x))
-joined_more f (y ∷ xs) (suc k) x e =
-    ap (λ zs. f y ++ zs) (joined_more f xs k x e)
+joined_more f (y ∷ xs) (suc k) x e = ap (λ zs. f y ++ zs) (joined_more f xs k x e)
     ∙ sym (append_assoc (f y) (flat_map f (take k xs)) (f x))
 
 numbered_place : {X : Type 0} (xs : List X) (from i : ℕ) (x : X) → slice_get xs i ≡ Some x
@@ -69,8 +64,7 @@ built_more c k n ls stems named b = record {
     more : (ls ++ line.Stem k ∷ []) ++ map branch (branches c n) ≡ lines_below c (k + 1)
     more =
         let next : suc k ≡ k + 1 = omega arith in
-        together
-        ∙ (ap (λ zs. zs ++ lines_of c (k, n)) b.lines_are
+        together ∙ (ap (λ zs. zs ++ lines_of c (k, n)) b.lines_are
         ∙ (sym (joined_more (lines_of c) (enumerate_from 0 (names c)) k (k, n)
         (numbered_place_0 (names c) k n named)) ∙ ap (lines_below c) next))
 
@@ -85,8 +79,7 @@ built_more c k n ls stems named b = record {
         → option_and_then (slice_get (ls ++ lines_of c (k, n)))
         (slice_get (stems ++ length ls ∷ []) s) ≡ Some (line.Stem s)
     older s None e h = let bad : None ≡ Some (line.Stem s) = h in cc
-    older s (Some p) e h =
-        rw (at_front stems (length ls ∷ []) s p e)
+    older s (Some p) e h = rw (at_front stems (length ls ∷ []) s p e)
         (at_front ls (lines_of c (k, n)) p (line.Stem s) h)
 
     each : (s : ℕ) → s < k + 1
@@ -94,8 +87,7 @@ built_more c k n ls stems named b = record {
         (slice_get (stems ++ length ls ∷ []) s) ≡ Some (line.Stem s)
     each s lt = rw together (go (below_or_at s k lt))
       where
-        go : (s < k) ⊎ (s ≡ k)
-            → option_and_then (slice_get (ls ++ lines_of c (k, n)))
+        go : (s < k) ⊎ (s ≡ k) → option_and_then (slice_get (ls ++ lines_of c (k, n)))
             (slice_get (stems ++ length ls ∷ []) s) ≡ Some (line.Stem s)
         go (inl h) = older s (slice_get stems s) refl (b.each_stem s h)
         go (inr h) =

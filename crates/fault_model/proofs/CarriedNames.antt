@@ -1,22 +1,17 @@
 -- A fault of the list is on a line that carries a name.
 use Rattle.std.proofs.Common.{◌≡◌, ℕ, refl, sym, ◌∙◌, ap, List, [], ◌∷◌, inl, inr}
 use Rattle.std.specs.Prelude.{Contains, option_map, Some, map, slice_get}
-use Rattle.bench_net.specs.declared.Sink.{Sink}
-use Rattle.bench_net.specs.declared.Sink.TheVariants as sink
-use Rattle.bench_net.specs.Statement.{Name, Statement, Gate, Dff}
+use Rattle.bench_net.specs.{declared.Sink.Sink, Statement.{Name, Statement, Gate, Dff}}
 use Rattle.bench_net.specs.Scan.{names, name_of, cell, cells, sinks, definition}
-use Rattle.bench_net.specs.Circuit.{IsWellFormed}
-use Rattle.list_lemmas.proofs.Members.{Among, contained}
-use Rattle.list_lemmas.proofs.Places.{at_place, from_mapped}
-use Rattle.bench_net.proofs.Public.{at_position}
-use Rattle.fault_model.proofs.SignalsDefined.{definition-signal, cell_in}
-use Rattle.fault_model.proofs.SignalsSinks.{pin_reads}
+use Rattle.bench_net.{specs.Circuit.IsWellFormed, proofs.Public.at_position}
+use Rattle.bench_net.specs.declared.Sink.TheVariants as sink
+use Rattle.list_lemmas.proofs.{Members.{Among, contained}, Places.{at_place, from_mapped}}
+use Rattle.fault_model.proofs.{SignalsDefined.{definition-signal, cell_in}, SignalsSinks.pin_reads}
 use Rattle.fault_model.proofs.SignalsOnce.{data_reads, out_reads, q_among}
-use Rattle.fault_model.specs.declared.Line.TheVariants as line
-use Rattle.fault_model.specs.declared.Model.{Model}
-use Rattle.fault_model.specs.Fault.{Fault, faults, branch}
+use Rattle.fault_model.specs.{declared.Model.Model, Fault.{Fault, faults, branch}}
 use Rattle.fault_model.specs.Detection.{name_on, argument}
 use Rattle.fault_model.proofs.ListedFaults.{IsOn, listed_on, branch_among}
+use Rattle.fault_model.specs.declared.Line.TheVariants as line
 
 -- the cell whose data pin reads a name
 data_carries : (c : List Statement) (i : ℕ) (n : Name) → IsWellFormed c

@@ -1,22 +1,16 @@
 -- The laws on classes: two faults of one class show the same, and are detected by the same tests.
 use Rattle.std.proofs.Common.{◌≡◌, ℕ, sym, ◌∙◌, ap, subst, Bool, true, false, List, refl}
 use Rattle.std.specs.Prelude.{Contains, Option, Some, None, unwrap_or, is_none, slice_get}
-use Rattle.bench_net.specs.declared.Sink.{Sink}
-use Rattle.bench_net.specs.Statement.{Name, Statement}
-use Rattle.bench_net.specs.Scan.{observers}
+use Rattle.bench_net.specs.{declared.Sink.Sink, Statement.{Name, Statement}, Scan.observers}
 use Rattle.bench_net.specs.Circuit.{IsWellFormed, HaveArities}
-use Rattle.list_lemmas.proofs.Members.{contained, filtered_from}
-use Rattle.list_lemmas.proofs.Places.{at_place}
-use Rattle.fault_model.specs.declared.Model.{Model}
-use Rattle.fault_model.specs.Fault.{Fault, faults, branch}
+use Rattle.list_lemmas.proofs.{Members.{contained, filtered_from}, Places.at_place}
+use Rattle.fault_model.specs.{declared.Model.Model, Fault.{Fault, faults, branch}}
 use Rattle.fault_model.specs.Solution.{Test, Solves, Detects, under, shows, ShowSame}
 use Rattle.fault_model.specs.Collapse.{next, Reaches, here, onward, representatives, IsClassOf}
-use Rattle.fault_model.specs.Collapse.{ClassesShowSame}
+use Rattle.fault_model.{specs.Collapse.ClassesShowSame, proofs.OneSolution.agree}
 use Rattle.fault_model.specs.Laws.{HasSolutions, HasOneSolution, ClassesDetectSame}
 use Rattle.fault_model.specs.Laws.{RepresentativesDetectSame, DetectionIsOfAnySolution}
-use Rattle.fault_model.proofs.OneSolution.{agree}
-use Rattle.fault_model.proofs.SomeSolution.{solution, solution_solves}
-use Rattle.fault_model.proofs.ListedFaults.{next_listed}
+use Rattle.fault_model.proofs.{SomeSolution.{solution, solution_solves}, ListedFaults.next_listed}
 use Rattle.fault_model.proofs.ShownAlike.{observes, step_shows_same}
 
 pub has_solutions : (c : List Statement) → IsWellFormed c → HasSolutions c

@@ -1,21 +1,17 @@
 -- The meaning of a computed test for the relations: a valuation that passes it solves, and a fault
 -- that it finds detected is detected.
 use Rattle.std.proofs.Common.{◌≡◌, ℕ, refl, subst, Bool, true, false, not, ◌&&◌, List, arith}
-use Rattle.std.specs.Option.{option_map_or}
+use Rattle.std.specs.{Option.option_map_or, List.{list_all, enumerate_from}}
 use Rattle.std.specs.Prelude.{Option, Some, None, slice_index_or, if◌then◌else◌, ◌≢◌}
-use Rattle.std.specs.List.{list_all, enumerate_from}
-use Rattle.bench_net.specs.Statement.{Name, Statement, Gate}
-use Rattle.bench_net.specs.Scan.{signal, sources, observers}
 use Rattle.std.proofs.lemmas.Bool.{and_parts}
+use Rattle.bench_net.specs.{Statement.{Name, Statement, Gate}, Scan.{signal, sources, observers}}
 use Rattle.list_lemmas.proofs.Members.{contained, Among, each_passes, some_passes}
-use Rattle.fault_model.specs.declared.Line.{Line}
-use Rattle.fault_model.specs.declared.Line.TheVariants as line
-use Rattle.fault_model.specs.declared.Model.TheVariants.{Transition}
-use Rattle.fault_model.specs.Fault.{Fault}
-use Rattle.fault_model.specs.Solution.{Test, Solves, Detects, value, under, pins_see, shows}
-use Rattle.fault_model.specs.Detection.{name_on, HasBit}
-use Rattle.fault_model.proofs.PlainPrograms.{bit_within, has_bit_within, detects_within, differs}
 use Rattle.list_lemmas.proofs.Places.{among_numbered_from}
+use Rattle.fault_model.specs.declared.{Line.Line, Model.TheVariants.Transition}
+use Rattle.fault_model.specs.{Fault.Fault, Detection.{name_on, HasBit}}
+use Rattle.fault_model.specs.Solution.{Test, Solves, Detects, value, under, pins_see, shows}
+use Rattle.fault_model.proofs.PlainPrograms.{bit_within, has_bit_within, detects_within, differs}
+use Rattle.fault_model.specs.declared.Line.TheVariants as line
 
 abbrev pub same_bit : Bool → Bool → Bool
 same_bit a b = if a then b else not b
@@ -42,8 +38,7 @@ source_solved c t f v at =
     same_bit (v at.1) (under f (line.Stem (signal c at.1)) (slice_index_or t at.0 false))
 
 abbrev pub is_solved : List Statement → Test → Option Fault → (Name → Bool) → Bool
-is_solved c t f v =
-    list_all (source_solved c t f v) (enumerate_from 0 (sources c))
+is_solved c t f v = list_all (source_solved c t f v) (enumerate_from 0 (sources c))
     && list_all (gate_solved c f v) c
 
 pub solves : (c : List Statement) (t : Test) (f : Option Fault) (v : Name → Bool)

@@ -2,28 +2,21 @@
 -- the limits.
 use Rattle.std.proofs.Common.{◌≡◌, ◌≤◌, ℕ, zero, suc, ◌+◌, ◌*◌, refl, sym, ◌∙◌, ap, subst, Bool}
 use Rattle.std.proofs.Common.{true, false, List, [], ◌∷◌, ◌++◌, length, arith, inl, inr}
-use Rattle.std.proofs.Common.{length-append}
+use Rattle.std.{proofs.Common.length-append, specs.Prelude.if◌then◌else◌, specs.List.enumerate_from}
 use Rattle.std.specs.Prelude.{Some, slice_get, map, flat_map, filter, nat_le, option_map}
-use Rattle.std.specs.Prelude.{if◌then◌else◌}
-use Rattle.std.specs.List.{enumerate_from}
-use Rattle.std.proofs.lemmas.List.{length-map}
-use Rattle.std.proofs.lemmas.List.Concat.{flat_map-append}
-use Rattle.bench_net.specs.declared.Sink.{Sink}
-use Rattle.bench_net.specs.declared.Sink.TheVariants as sink
-use Rattle.bench_net.specs.Statement.{Name, Statement}
-use Rattle.bench_net.specs.Scan.{names, sinks}
+use Rattle.std.proofs.lemmas.List.{length-map, Concat.flat_map-append}
+use Rattle.bench_net.specs.{declared.Sink.Sink, Statement.{Name, Statement}, Scan.{names, sinks}}
 use Rattle.bench_net.specs.Circuit.{IsWellFormed, IsCircuit, sink_count, max_signals, max_sinks}
+use Rattle.bench_net.specs.declared.Sink.TheVariants as sink
 use Rattle.list_lemmas.proofs.Members.{Among, joined_from, mapped_from, filtered_from}
 use Rattle.list_lemmas.proofs.Distinct.{Distinct, distinct_from_pairs, one_place_of}
 use Rattle.list_lemmas.proofs.Distinct.{distinct_append, distinct_map}
 use Rattle.list_lemmas.proofs.Places.{numbered_from, at_place}
-use Rattle.fault_model.proofs.SignalsOnce.{sinks_once, one_read}
-use Rattle.fault_model.proofs.SignalsCount.{sum_over, sinks_counted}
-use Rattle.fault_model.specs.declared.Line.{Line}
-use Rattle.fault_model.specs.declared.Line.TheVariants as line
-use Rattle.fault_model.specs.declared.Model.{Model}
+use Rattle.fault_model.{proofs.SignalsOnce.{sinks_once, one_read}, specs.declared.Line.Line}
+use Rattle.fault_model.{proofs.SignalsCount.{sum_over, sinks_counted}, specs.declared.Model.Model}
 use Rattle.fault_model.specs.Fault.{Fault, branch, branches, both, faults_of, faults}
 use Rattle.fault_model.proofs.ListedFaults.{fault_on, branch_among, on_both}
+use Rattle.fault_model.specs.declared.Line.TheVariants as line
 
 -- the lines of one signal: its stem, then its branches
 abbrev pub lines_of : List Statement → ℕ × Name → List Line
@@ -46,13 +39,11 @@ joined_same f g (x ∷ xs) same = rw (same x, joined_same f g xs same) refl
 joined_twice : {X Y Z : Type 0} (f : Y → List Z) (g : X → List Y) (xs : List X)
     → flat_map f (flat_map g xs) ≡ flat_map (λ x. flat_map f (g x)) xs
 joined_twice f g [] = refl
-joined_twice f g (x ∷ xs) =
-    flat_map-append f (g x) (flat_map g xs)
+joined_twice f g (x ∷ xs) = flat_map-append f (g x) (flat_map g xs)
     ∙ ap (λ zs. flat_map f (g x) ++ zs) (joined_twice f g xs)
 
 pub faults_are : (m : Model) (c : List Statement) → flat_map (both m) (lines c) ≡ faults m c
-faults_are m c =
-    joined_twice (both m) (lines_of c) (enumerate_from 0 (names c))
+faults_are m c = joined_twice (both m) (lines_of c) (enumerate_from 0 (names c))
     ∙ joined_same (λ at. flat_map (both m) (lines_of c at)) (faults_of m c)
     (enumerate_from 0 (names c))
     (λ at. ap (λ zs. both m (line.Stem at.0) ++ zs) (joined_map (both m) branch (branches c at.1)))
@@ -64,16 +55,14 @@ length_both m (l ∷ ls) =
     let h : length (flat_map (both m) ls) ≡ 2 * length ls = length_both m ls in omega (arith, h)
 
 -- the entry at an even place, and at an odd one
-pub at_even : (m : Model) (ls : List Line) (i : ℕ)
-    → slice_get (flat_map (both m) ls) (i + i)
+pub at_even : (m : Model) (ls : List Line) (i : ℕ) → slice_get (flat_map (both m) ls) (i + i)
     ≡ option_map (λ l. fault_on m l false) (slice_get ls i)
 at_even m [] i = refl
 at_even m (l ∷ ls) zero = refl
 at_even m (l ∷ ls) (suc i) =
     let two : suc i + suc i ≡ suc (suc (i + i)) = omega arith in rw two (at_even m ls i)
 
-pub at_odd : (m : Model) (ls : List Line) (i : ℕ)
-    → slice_get (flat_map (both m) ls) (suc (i + i))
+pub at_odd : (m : Model) (ls : List Line) (i : ℕ) → slice_get (flat_map (both m) ls) (suc (i + i))
     ≡ option_map (λ l. fault_on m l true) (slice_get ls i)
 at_odd m [] i = refl
 at_odd m (l ∷ ls) zero = refl
@@ -131,8 +120,7 @@ module _ (c : List Statement) (well : IsWellFormed c) where
           let p = mapped_from branch (branches c n) l h in
           let q = mapped_from branch (branches c at.1) l j in
           let same : q.0 ≡ p.0 = branch_apart q.0 p.0 (q.2 ∙ sym p.2) in
-          let one : n ≡ at.1 =
-          one_read c p.0 n at.1 well (branch_among c n p.0 p.1)
+          let one : n ≡ at.1 = one_read c p.0 n at.1 well (branch_among c n p.0 p.1)
           (branch_among c at.1 p.0 (subst (λ k. Among k (branches c at.1)) same q.1)) in
           fresh (subst (λ m. Among m ns) (sym one) (at_place ns i at.1 there))
 
@@ -202,8 +190,7 @@ few_lines : (c : List Statement) (s : ℕ) (ns : List Name)
 few_lines c s [] = omega arith
 few_lines c s (n ∷ ns) =
     let later : length (flat_map (lines_of c) (enumerate_from (s + 1) ns))
-    ≤ length ns + sum_over (λ n. length (sinks c n)) ns =
-    few_lines c (s + 1) ns in
+    ≤ length ns + sum_over (λ n. length (sinks c n)) ns = few_lines c (s + 1) ns in
     let own : length (map branch (branches c n)) ≡ length (branches c n) =
     length-map (branches c n) branch in
     let few : length (branches c n) ≤ length (sinks c n) = few_branches c n in
@@ -212,8 +199,7 @@ few_lines c s (n ∷ ns) =
     ≡ length (map branch (branches c n))
     + length (flat_map (lines_of c) (enumerate_from (s + 1) ns))
     = length-append (map branch (branches c n)) (flat_map (lines_of c) (enumerate_from (s + 1) ns))
-    in
-    omega (arith, later, own, few, parts)
+    in omega (arith, later, own, few, parts)
 
 pub lines_within : (c : List Statement) → IsCircuit c → length (lines c) ≤ max_signals + max_sinks
 lines_within c is =

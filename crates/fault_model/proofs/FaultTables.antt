@@ -6,13 +6,10 @@ use Rattle.std.specs.Prelude.{option_and_then, nat_eq, IfSome}
 use Rattle.std.proofs.lemmas.Option.{slice_get-get_or}
 use Rattle.list_lemmas.proofs.Members.{Among, among, contained, joined_from}
 use Rattle.list_lemmas.proofs.Places.{place_within, within_place}
-use Rattle.fault_model.specs.declared.Line.{Line}
-use Rattle.fault_model.specs.declared.Line.TheVariants as line
-use Rattle.fault_model.specs.declared.Model.{Model}
-use Rattle.fault_model.proofs.ListedFaults.{fault_on}
-use Rattle.fault_model.specs.Fault.{both}
-use Rattle.fault_model.specs.Lines.{AreStemsOf}
+use Rattle.fault_model.specs.{declared.Line.Line, declared.Model.Model, Fault.both}
+use Rattle.fault_model.{proofs.ListedFaults.fault_on, specs.Lines.AreStemsOf}
 use Rattle.fault_model.proofs.FaultLines.{length_both, at_even, at_odd}
+use Rattle.fault_model.specs.declared.Line.TheVariants as line
 
 pub half_within : (m : Model) (ls : List Line) (k : ℕ) → k < length (flat_map (both m) ls)
     → k / 2 < length ls

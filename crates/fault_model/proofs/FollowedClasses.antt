@@ -4,10 +4,8 @@ use Rattle.std.proofs.Common.{length, set, get_or, arith, inl, inr, ◌⊎◌}
 use Rattle.std.specs.Prelude.{Contains, Some, slice_get, map, option_map, option_and_then}
 use Rattle.std.proofs.lemmas.Option.{slice_get-get_or}
 use Rattle.bench_net.specs.Statement.{Statement}
-use Rattle.list_lemmas.proofs.Members.{contained}
-use Rattle.list_lemmas.proofs.Places.{at_place, place_within}
-use Rattle.fault_model.specs.declared.Model.{Model}
-use Rattle.fault_model.specs.Fault.{Fault, faults}
+use Rattle.list_lemmas.proofs.{Members.contained, Places.{at_place, place_within}}
+use Rattle.fault_model.specs.{declared.Model.Model, Fault.{Fault, faults}}
 use Rattle.fault_model.specs.Collapse.{next, onward, representatives, IsClassOf, AreClassesOf}
 use Rattle.fault_model.specs.Known.{HasClassAt, HasEnds, HasNext, KeepsClasses}
 use Rattle.fault_model.proofs.RepresentativeNumbers.{answer_some}
@@ -47,8 +45,7 @@ pub record Followed (m : Model) (c : List Statement) (before after : List ℕ) (
 
 pub follow_some : (m : Model) (c : List Statement) (class_of : List ℕ) (i j x : ℕ) (f : Fault)
     → length class_of ≡ length (faults m c) → slice_get (faults m c) i ≡ Some f
-    → HasNext m c class_of i
-    → option_map (slice_get (faults m c)) (Some j)
+    → HasNext m c class_of i → option_map (slice_get (faults m c)) (Some j)
     ≡ option_map Some (option_and_then (next c) (slice_get (faults m c) i))
     → x ≡ get_or class_of j 0 → Followed m c class_of (set class_of i x) i
 follow_some m c class_of i j x f count at has found read = record { known = known; kept = kept }

@@ -1,29 +1,23 @@
 -- The faults of the list, and their next faults.
 use Rattle.std.proofs.Common.{◌≡◌, ℕ, refl, sym, ◌∙◌, ap, subst, Bool, true, false, List, [], ◌∷◌}
-use Rattle.std.proofs.Common.{inl, inr, ◌⊎◌, eqb-true, eq-eqb}
+use Rattle.std.{proofs.Common.{inl, inr, ◌⊎◌, eqb-true, eq-eqb}, specs.Option.option_map_or}
 use Rattle.std.specs.Prelude.{Contains, Option, Some, None, slice_get, flat_map, length, nat_le}
 use Rattle.std.specs.Prelude.{unwrap_or, ◌≢◌, option_map, option_and_then, ◌==◌}
-use Rattle.std.specs.Option.{option_map_or}
-use Rattle.std.specs.List.{enumerate_from}
-use Rattle.bench_net.specs.declared.Kind.{Kind}
-use Rattle.bench_net.specs.declared.Sink.{Sink}
-use Rattle.bench_net.specs.declared.Sink.TheVariants as sink
+use Rattle.std.{specs.List.enumerate_from, proofs.lemmas.Bool.and_parts}
+use Rattle.bench_net.specs.{declared.Kind.Kind, declared.Sink.Sink, Circuit.IsWellFormed}
 use Rattle.bench_net.specs.Statement.{Name, Statement, Gate}
 use Rattle.bench_net.specs.Scan.{names, signal, name_of, sinks, gate_line}
-use Rattle.bench_net.specs.Circuit.{IsWellFormed}
+use Rattle.bench_net.proofs.Public.{name_of-signal, signal-name_of}
+use Rattle.bench_net.specs.declared.Sink.TheVariants as sink
 use Rattle.list_lemmas.proofs.Members.{Among, among, contained, among_append, among_left}
 use Rattle.list_lemmas.proofs.Members.{among_joined, among_right, joined_from}
-use Rattle.std.proofs.lemmas.Bool.{and_parts}
-use Rattle.bench_net.proofs.Public.{name_of-signal, signal-name_of}
-use Rattle.fault_model.proofs.SignalsDefined.{definition-signal, defined_among}
-use Rattle.fault_model.proofs.SignalsSinks.{PinReads, pin_reads}
 use Rattle.list_lemmas.proofs.Places.{among_numbered, numbered_at, at_place}
-use Rattle.fault_model.specs.declared.Line.{Line}
-use Rattle.fault_model.specs.declared.Line.TheVariants as line
-use Rattle.fault_model.specs.declared.Model.{Model}
+use Rattle.fault_model.proofs.SignalsDefined.{definition-signal, defined_among}
+use Rattle.fault_model.{proofs.SignalsSinks.{PinReads, pin_reads}, specs.declared.Line.Line}
+use Rattle.fault_model.specs.{declared.Model.Model, Solution.under}
 use Rattle.fault_model.specs.Fault.{Fault, branch, branches, both, faults, faults_of, same_line}
-use Rattle.fault_model.specs.Solution.{under}
 use Rattle.fault_model.specs.Collapse.{next, next_over, next_stuck, readers, kind_of}
+use Rattle.fault_model.specs.declared.Line.TheVariants as line
 
 -- the fault of a model on a line, with a bit
 abbrev pub fault_on : Model → Line → Bool → Fault
@@ -90,8 +84,7 @@ listed_on m c f at =
           (flat_map (λ k. both m (branch k)) (branches c p.0.1)) f p.2),
     )
   where
-    go : (at : ℕ × Name)
-        → Among f (both m (line.Stem at.0))
+    go : (at : ℕ × Name) → Among f (both m (line.Stem at.0))
         ⊎ Among f (flat_map (λ k. both m (branch k)) (branches c at.1)) → IsOn c at.0 at.1 f.line
     go at (inl h) = inl (on_both m (line.Stem at.0) f h)
     go at (inr h) =
@@ -111,8 +104,7 @@ listed_model m c f at =
     go p.0 (among_append (both m (line.Stem p.0.0))
     (flat_map (λ k. both m (branch k)) (branches c p.0.1)) f p.2)
   where
-    go : (at : ℕ × Name)
-        → Among f (both m (line.Stem at.0))
+    go : (at : ℕ × Name) → Among f (both m (line.Stem at.0))
         ⊎ Among f (flat_map (λ k. both m (branch k)) (branches c at.1)) → f.model ≡ m
     go at (inl h) = of_both m (line.Stem at.0) f h
     go at (inr h) =
@@ -135,8 +127,7 @@ stem_both m l true = inr (inl refl)
 
 pub stem_listed : (m : Model) (c : List Statement) (s : ℕ) (n : Name) (b : Bool)
     → name_of c s ≡ Some n → Contains (faults m c) (fault_on m (line.Stem s) b)
-stem_listed m c s n b e =
-    contained (faults m c) (fault_on m (line.Stem s) b)
+stem_listed m c s n b e = contained (faults m c) (fault_on m (line.Stem s) b)
     (among_joined (faults_of m c) (enumerate_from 0 (names c)) (s, n) (fault_on m (line.Stem s) b)
     (among_numbered (names c) s n e) (among_left (both m (line.Stem s))
     (flat_map (λ k. both m (branch k)) (branches c n)) (fault_on m (line.Stem s) b)
@@ -226,13 +217,11 @@ pub record Step (c : List Statement) (f g : Fault) : Type 0 where
 -- the kind of a gate that stands in the list
 kind_stands : (c : List Statement) (n : Name) (kind : Kind) (args : List Name) → IsWellFormed c
     → Among (Gate n kind args) c → kind_of c (signal c n) ≡ Some kind
-kind_stands c n kind args well a =
-    ap (λ o. option_map (λ g. g.0) (gate_line c o))
+kind_stands c n kind args well a = ap (λ o. option_map (λ g. g.0) (gate_line c o))
     (definition-signal c (Gate n kind args) n well (contained c (Gate n kind args) a) refl)
 
 step_with : (c : List Statement) (f g : Fault) (n : Name) → IsWellFormed c → (p : NextParts c f g)
-    → PinReads c n p.gate p.pin
-    → IsReadBy c f.line n p.gate p.pin → Step c f g
+    → PinReads c n p.gate p.pin → IsReadBy c f.line n p.gate p.pin → Step c f g
 step_with c f g n well p r on = record {
   name = r.name;
   kind = r.kind;
@@ -249,8 +238,7 @@ step_with c f g n well p r on = record {
   where
     kinds : p.kind ≡ r.kind
     kinds =
-        let same : Some p.kind ≡ Some r.kind =
-        sym p.has_kind
+        let same : Some p.kind ≡ Some r.kind = sym p.has_kind
         ∙ (ap (kind_of c) (sym r.number) ∙ kind_stands c r.name r.kind r.args well r.stands) in
         ap (λ o. unwrap_or o r.kind) same
 
@@ -269,8 +257,7 @@ step_of m c f g well at e = let q = listed_on m c f at in go q.0 q.1 q.2 q.3 (ne
     go : (s : ℕ) (n : Name) → name_of c s ≡ Some n → IsOn c s n f.line → NextParts c f g
         → Step c f g
     go s n named (inl on) p =
-        let number : signal c n ≡ s =
-        signal-name_of c s n well.once named
+        let number : signal c n ≡ s = signal-name_of c s n well.once named
         (contained (names c) n (at_place (names c) s n named)) in
         let read : option_map_or (sinks c) (name_of c s) [] ≡ sink.Pin p.gate p.pin ∷ [] =
         rw on at p.read_by in
@@ -280,8 +267,7 @@ step_of m c f g well at e = let q = listed_on m c f at in go q.0 q.1 q.2 q.3 (ne
         step_with c f g n well p (pin_reads c n p.gate p.pin there)
         (inl (on ∙ ap line.Stem (sym number), only))
     go s n named (inr b) p =
-        let own : b.0 ≡ sink.Pin p.gate p.pin =
-        branch_read c b.0 p.gate p.pin
+        let own : b.0 ≡ sink.Pin p.gate p.pin = branch_read c b.0 p.gate p.pin
         (subst (λ l. readers c l ≡ sink.Pin p.gate p.pin ∷ []) b.2 p.read_by) in
         let there : Among (sink.Pin p.gate p.pin) (sinks c n) =
         subst (λ k. Among k (sinks c n)) own (branch_among c n b.0 b.1) in
@@ -297,6 +283,5 @@ next_listed m c f g well at e =
     s.bit (name_of-signal c s.name (gate_defined s))))
   where
     gate_defined : (s : Step c f g) → Contains (names c) s.name
-    gate_defined s =
-        contained (names c) s.name
+    gate_defined s = contained (names c) s.name
         (defined_among c (Gate s.name s.kind s.args) s.name s.stands refl)

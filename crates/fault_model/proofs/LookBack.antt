@@ -1,23 +1,15 @@
 -- Members of a class look back alike, and so the same tests of every list detect them.
 use Rattle.std.proofs.Common.{◌≡◌, ℕ, zero, suc, refl, sym, ◌∙◌, ap, subst, Bool, true, false, not}
-use Rattle.std.proofs.Common.{List, length, inl, inr}
+use Rattle.std.{proofs.Common.{List, length, inl, inr}, specs.List.enumerate_from}
 use Rattle.std.specs.Prelude.{◌↔◌, Contains, Some, None, unwrap_or}
-use Rattle.std.specs.List.{enumerate_from}
-use Rattle.bench_net.specs.declared.Kind.{Kind}
+use Rattle.bench_net.specs.{declared.Kind.Kind, Statement.{Name, Statement, Gate}, Reading.HasArity}
 use Rattle.bench_net.specs.declared.Kind.TheVariants.{And, Nand, Or, Nor, Xor, Xnor, Not, Buff}
-use Rattle.bench_net.specs.Statement.{Name, Statement, Gate}
-use Rattle.bench_net.specs.Reading.{HasArity}
-use Rattle.bench_net.specs.Scan.{names, signal}
-use Rattle.bench_net.specs.Circuit.{IsWellFormed, HaveArities}
-use Rattle.list_lemmas.proofs.Members.{Among, contained, among_map}
+use Rattle.bench_net.specs.{Scan.{names, signal}, Circuit.{IsWellFormed, HaveArities}}
 use Rattle.bench_net.proofs.Public.{name_of-signal}
-use Rattle.fault_model.proofs.SignalsDefined.{definition-signal}
-use Rattle.list_lemmas.proofs.Places.{among_numbered}
-use Rattle.fault_model.specs.declared.Line.TheVariants as line
-use Rattle.fault_model.specs.declared.Model.{Model}
+use Rattle.list_lemmas.proofs.{Members.{Among, contained, among_map}, Places.among_numbered}
+use Rattle.fault_model.{proofs.SignalsDefined.definition-signal, specs.declared.Model.Model}
 use Rattle.fault_model.specs.declared.Model.TheVariants.{StuckAt, Transition, TransitionPairs}
-use Rattle.fault_model.specs.Fault.{Fault, faults}
-use Rattle.fault_model.specs.Solution.{Test, Solves, value, sees, pins_see}
+use Rattle.fault_model.specs.{Fault.{Fault, faults}, Solution.{Test, Solves, value, sees, pins_see}}
 use Rattle.fault_model.specs.Collapse.{next_stuck, Reaches, here, onward, IsClassOf}
 use Rattle.fault_model.specs.Detection.{name_on, argument, HasBit, IsInitialized, LooksBack}
 use Rattle.fault_model.specs.Detection.{ClassesDetectedSame, DetectedAsRepresentative}
@@ -25,6 +17,7 @@ use Rattle.fault_model.proofs.ListedFaults.{IsReadBy, Step, step_of, next_listed
 use Rattle.fault_model.proofs.NextFaultChains.{read_defined, gate_defined}
 use Rattle.fault_model.proofs.ShownAlike.{only_one, length_pins}
 use Rattle.fault_model.proofs.ClassLaws.{classes_detect_same, own_class}
+use Rattle.fault_model.specs.declared.Line.TheVariants as line
 
 not_apart : (a b : Bool) → not a ≡ not b → a ≡ b
 not_apart true true e = refl
@@ -35,8 +28,7 @@ not_apart false false e = refl
 -- over a gate of one input its pin has the one bit exactly if its output has the other
 passed : (kind : Kind) (a b x : Bool) (args : List Name) (bits : List Bool)
     → next_stuck Transition kind a ≡ Some b → HasArity kind args → length bits ≡ length args
-    → Among x bits
-    → (x ≡ a) ↔ (value kind bits ≡ b)
+    → Among x bits → (x ≡ a) ↔ (value kind bits ≡ b)
 passed Buff a b x args bits e arity len h =
     let one : value Buff bits ≡ x = only_one bits x (len ∙ arity) h in
     let same : a ≡ b = ap (λ o. unwrap_or o b) e in
@@ -65,17 +57,14 @@ module _ (c : List Statement) (f g : Fault) (well : IsWellFormed c) (arities : H
   from_carried = go s.on
     where
       go : IsReadBy c f.line s.read (signal c s.name) s.pin → name_on c f.line ≡ Some s.read
-      go (inl on) =
-          ap (name_on c) on.0
+      go (inl on) = ap (name_on c) on.0
           ∙ name_of-signal c s.read (contained (names c) s.read (read_defined c well f g s))
-      go (inr on) =
-          ap (name_on c) on
+      go (inr on) = ap (name_on c) on
           ∙ (ap (λ o. argument o s.pin) (definition-signal c (Gate s.name s.kind s.args) s.name well
           (contained c (Gate s.name s.kind s.args) s.stands) refl) ∙ s.reads)
 
   to_carried : name_on c g.line ≡ Some s.name
-  to_carried =
-      ap (λ x. name_on c x.line) (sym s.gives)
+  to_carried = ap (λ x. name_on c x.line) (sym s.gives)
       ∙ name_of-signal c s.name (contained (names c) s.name (gate_defined c well f g s))
 
   to_bit : g.stuck ≡ s.bit

@@ -1,32 +1,23 @@
 -- The next fault, in the steps by which it is found.
 use Rattle.std.proofs.Common.{◌≡◌, ◌<◌, ℕ, refl, sym, ◌∙◌, ap, subst, Bool, List, [], ◌∷◌, length}
-use Rattle.std.proofs.Common.{inl, inr}
+use Rattle.std.{proofs.Common.{inl, inr}, specs.Prelude.IfSome, specs.Option.option_map_or}
 use Rattle.std.specs.Prelude.{Contains, Option, Some, None, slice_get, option_map, option_and_then}
-use Rattle.std.specs.Prelude.{IfSome}
-use Rattle.std.specs.Option.{option_map_or}
-use Rattle.bench_net.specs.declared.Kind.{Kind}
-use Rattle.bench_net.specs.declared.Sink.{Sink}
+use Rattle.bench_net.specs.{declared.Kind.Kind, declared.Sink.Sink, Scan.{names, name_of, sinks}}
+use Rattle.bench_net.{specs.Statement.{Name, Statement, Gate}, proofs.Public.name_of-signal}
 use Rattle.bench_net.specs.declared.Sink.TheVariants as sink
-use Rattle.bench_net.specs.Statement.{Name, Statement, Gate}
-use Rattle.bench_net.specs.Scan.{names, name_of, sinks}
 use Rattle.list_lemmas.proofs.Members.{Among, contained}
-use Rattle.bench_net.proofs.Public.{name_of-signal}
-use Rattle.fault_model.proofs.SignalsDefined.{defined_among}
-use Rattle.fault_model.proofs.SignalsSinks.{PinReads, pin_reads}
 use Rattle.list_lemmas.proofs.Places.{at_place, place_within, within_place}
-use Rattle.fault_model.specs.declared.Line.{Line}
-use Rattle.fault_model.specs.declared.Line.TheVariants as line
-use Rattle.fault_model.specs.declared.Model.{Model}
-use Rattle.fault_model.specs.Fault.{Fault, branch, faults}
+use Rattle.fault_model.proofs.{SignalsDefined.defined_among, SignalsSinks.{PinReads, pin_reads}}
+use Rattle.fault_model.specs.declared.{Line.Line, Model.Model}
+use Rattle.fault_model.specs.{Fault.{Fault, branch, faults}, Known.{only_gate, IsInCircuit}}
 use Rattle.fault_model.specs.Collapse.{next, next_over, next_stuck, readers, kind_of}
-use Rattle.fault_model.specs.Known.{only_gate, IsInCircuit}
 use Rattle.fault_model.proofs.ListedFaults.{fault_on, IsOn, listed_on, listed_model, branch_among}
 use Rattle.fault_model.proofs.ListedFaults.{branch_read}
+use Rattle.fault_model.specs.declared.Line.TheVariants as line
 
 -- the fault on the stem of a gate that the table gives for this kind and bit
 abbrev pub by_table : Model → ℕ → Bool → Option Kind → Option Fault
-by_table m gate stuck kind =
-    option_map (λ b. fault_on m (line.Stem gate) b)
+by_table m gate stuck kind = option_map (λ b. fault_on m (line.Stem gate) b)
     (option_and_then (λ k. next_stuck m k stuck) kind)
 
 next_over_is : (c : List Statement) (m : Model) (stuck : Bool) (rs : List Sink)
@@ -38,8 +29,7 @@ next_over_is c m stuck (sink.Out i ∷ rs) = refl
 next_over_is c m stuck (sink.Pin gate pin ∷ r ∷ rs) = refl
 next_over_is c m stuck (sink.Pin gate pin ∷ []) = refl
 
-next_is : (c : List Statement) (f : Fault)
-    → next c f
+next_is : (c : List Statement) (f : Fault) → next c f
     ≡ option_and_then (λ gate. by_table f.model gate f.stuck (kind_of c gate))
     (only_gate (readers c f.line))
 next_is c f = next_over_is c f.model f.stuck (readers c f.line)

@@ -1,25 +1,18 @@
 -- Chains of next faults end: each next fault is on the stem of a gate with a greater number.
 use Rattle.std.proofs.Common.{◌≡◌, ◌<◌, ◌≤◌, ℕ, zero, suc, ◌+◌, ◌*◌, refl, sym, ◌∙◌, ap, subst}
-use Rattle.std.proofs.Common.{List, [], ◌∷◌, arith, inl, inr}
+use Rattle.std.{proofs.Common.{List, [], ◌∷◌, arith, inl, inr}, specs.Option.option_map_or}
 use Rattle.std.specs.Prelude.{Contains, Option, Some, None, unwrap_or, is_none}
-use Rattle.std.specs.Option.{option_map_or}
-use Rattle.bench_net.specs.Statement.{Name, Statement, Gate}
-use Rattle.bench_net.specs.Scan.{names, signal, name_of}
-use Rattle.bench_net.specs.Circuit.{IsWellFormed}
+use Rattle.bench_net.specs.{Statement.{Name, Statement, Gate}, Scan.{names, signal, name_of}}
+use Rattle.bench_net.{specs.Circuit.IsWellFormed, proofs.Public.{name_of-signal, read_named}}
 use Rattle.list_lemmas.proofs.Members.{Among, among, contained, among_filter}
-use Rattle.bench_net.proofs.Public.{name_of-signal, read_named}
-use Rattle.fault_model.proofs.SignalsDefined.{defined_among}
-use Rattle.list_lemmas.proofs.Places.{at_place, placed}
-use Rattle.list_lemmas.proofs.Distinct.{one_place_of}
-use Rattle.fault_model.specs.declared.Line.{Line}
-use Rattle.fault_model.specs.declared.Line.TheVariants as line
-use Rattle.fault_model.specs.declared.Model.{Model}
-use Rattle.fault_model.specs.Fault.{Fault, faults}
+use Rattle.list_lemmas.proofs.{Places.{at_place, placed}, Distinct.one_place_of}
+use Rattle.fault_model.{proofs.SignalsDefined.defined_among, specs.declared.Line.Line}
+use Rattle.fault_model.specs.{declared.Model.Model, Fault.{Fault, faults}, Collapse.IsClassOf}
 use Rattle.fault_model.specs.Collapse.{next, Reaches, here, onward, Represents, representatives}
-use Rattle.fault_model.specs.Collapse.{IsClassOf}
 use Rattle.fault_model.specs.Laws.{HasRepresentatives, HasClasses}
 use Rattle.fault_model.proofs.FaultLines.{distinct_faults, distinct_filter}
 use Rattle.fault_model.proofs.ListedFaults.{IsReadBy, Step, step_of, next_listed}
+use Rattle.fault_model.specs.declared.Line.TheVariants as line
 
 -- the sum of the numbers of some names, which none of them is above
 total : (Name → ℕ) → List Name → ℕ
@@ -49,25 +42,22 @@ module _ (c : List Statement) (well : IsWellFormed c) where
 
   gate_height : (n : Name) → Among n (names c)
       → height c well.acyclic.0 (line.Stem (signal c n)) ≡ 2 * well.acyclic.0 n + 1
-  gate_height n a =
-      ap (λ o. option_map_or (λ m. 2 * well.acyclic.0 m + 1) o 0)
+  gate_height n a = ap (λ o. option_map_or (λ m. 2 * well.acyclic.0 m + 1) o 0)
       (name_of-signal c n (contained (names c) n a))
 
   pin_height : (n : Name) (pin : ℕ) → Among n (names c)
       → height c well.acyclic.0 (line.Pin (signal c n) pin) ≡ 2 * well.acyclic.0 n
-  pin_height n pin a =
-      ap (λ o. option_map_or (λ m. 2 * well.acyclic.0 m) o 0)
+  pin_height n pin a = ap (λ o. option_map_or (λ m. 2 * well.acyclic.0 m) o 0)
       (name_of-signal c n (contained (names c) n a))
 
   -- the number of the name that a step's pin reads is below the number of its gate
   pub read_below : (f g : Fault) (s : Step c f g) → well.acyclic.0 s.read < well.acyclic.0 s.name
-  read_below f g s =
-      well.acyclic.1 s.name s.read (
-        s.kind,
-        s.args,
-        contained c (Gate s.name s.kind s.args) s.stands,
-        contained s.args s.read (at_place s.args s.pin s.read s.reads),
-      )
+  read_below f g s = well.acyclic.1 s.name s.read (
+    s.kind,
+    s.args,
+    contained c (Gate s.name s.kind s.args) s.stands,
+    contained s.args s.read (at_place s.args s.pin s.read s.reads),
+  )
 
   pub read_defined : (f g : Fault) (s : Step c f g) → Among s.read (names c)
   read_defined f g s =
@@ -90,8 +80,7 @@ module _ (c : List Statement) (well : IsWellFormed c) where
       }
         where
           to : height c well.acyclic.0 g.line ≡ 2 * well.acyclic.0 s.name + 1
-          to =
-              ap (λ x. height c well.acyclic.0 x.line) (sym s.gives)
+          to = ap (λ x. height c well.acyclic.0 x.line) (sym s.gives)
               ∙ gate_height s.name (gate_defined f g s)
 
           by_line : IsReadBy c f.line s.read (signal c s.name) s.pin

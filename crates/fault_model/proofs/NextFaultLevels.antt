@@ -2,17 +2,14 @@
 use Rattle.std.proofs.Common.{◌≡◌, ◌<◌, ◌≤◌, ℕ, zero, suc, ◌+◌, refl, sym, ◌∙◌, ap, subst, List, []}
 use Rattle.std.proofs.Common.{◌∷◌, length, max, map, arith, inl, inr, ◌⊎◌}
 use Rattle.std.specs.Prelude.{Contains, Some, None, slice_get, slice_index_or, fold, unwrap_or}
-use Rattle.bench_net.specs.Statement.{Name, Statement, Gate}
+use Rattle.bench_net.specs.{Statement.{Name, Statement, Gate}, Circuit.IsWellFormed}
 use Rattle.bench_net.specs.Scan.{names, signal, name_of, inputs, cells, sources}
-use Rattle.bench_net.specs.Circuit.{IsWellFormed}
 use Rattle.bench_net.specs.Level.{greatest, AreLevels, HasLevel, GoesBefore, IsLevelOrder}
-use Rattle.list_lemmas.proofs.Members.{Among, among, contained, among_left, among_right, among_map}
 use Rattle.bench_net.proofs.Public.{name_of-signal, read_named}
-use Rattle.fault_model.proofs.SignalsDefined.{signal_apart}
+use Rattle.list_lemmas.proofs.Members.{Among, among, contained, among_left, among_right, among_map}
 use Rattle.list_lemmas.proofs.Places.{at_place, place_within, within_place}
-use Rattle.fault_model.specs.Fault.{Fault}
-use Rattle.fault_model.proofs.OneSolution.{Driven, driven}
-use Rattle.fault_model.proofs.ListedFaults.{Step}
+use Rattle.fault_model.{proofs.SignalsDefined.signal_apart, specs.Fault.Fault}
+use Rattle.fault_model.proofs.{OneSolution.{Driven, driven}, ListedFaults.Step}
 use Rattle.fault_model.proofs.ShownAlike.{map_agree}
 use Rattle.fault_model.proofs.NextFaultChains.{read_defined, gate_defined, read_below}
 

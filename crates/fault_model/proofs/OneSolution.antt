@@ -1,24 +1,18 @@
 -- A well-formed circuit has at most one solution under a test and a fault.
 use Rattle.std.proofs.Common.{◌≡◌, ◌<◌, ℕ, zero, suc, ◌+◌, refl, sym, ◌∙◌, ap, Bool, List, [], ◌∷◌}
-use Rattle.std.proofs.Common.{arith, inl, inr, ◌⊎◌}
-use Rattle.std.specs.Prelude.{Contains, Option, map}
+use Rattle.std.{proofs.Common.{arith, inl, inr, ◌⊎◌}, specs.Prelude.{Contains, Option, map}}
 use Rattle.std.specs.List.{enumerate_from}
-use Rattle.bench_net.specs.declared.Kind.{Kind}
+use Rattle.bench_net.specs.{declared.Kind.Kind, Scan.{names, inputs, cells, sources, signal}}
 use Rattle.bench_net.specs.Statement.{Name, Statement, Input, Output, Gate, Dff}
-use Rattle.bench_net.specs.Scan.{names, inputs, cells, sources, signal}
-use Rattle.bench_net.specs.Circuit.{IsWellFormed}
+use Rattle.bench_net.{specs.Circuit.IsWellFormed, proofs.Public.read_named}
 use Rattle.list_lemmas.proofs.Members.{Among, among, contained, among_left, among_right}
 use Rattle.list_lemmas.proofs.Places.{placed}
-use Rattle.bench_net.proofs.Public.{read_named}
 use Rattle.fault_model.specs.declared.Line.TheVariants as line
-use Rattle.fault_model.specs.Fault.{Fault}
-use Rattle.fault_model.specs.Solution.{Test, Solves, value, under, sees}
+use Rattle.fault_model.specs.{Fault.Fault, Solution.{Test, Solves, value, under, sees}}
 
 -- a defined name is a source or drives a gate
 abbrev pub Driven : List Statement → Name → Type 0
-Driven c n =
-    Among n (inputs c)
-    ⊎ (Among n (map (λ cell. cell.0) (cells c))
+Driven c n = Among n (inputs c) ⊎ (Among n (map (λ cell. cell.0) (cells c))
     ⊎ ((kind : Kind) × (args : List Name) × Among (Gate n kind args) c))
 
 pub driven : (c : List Statement) (n : Name) → Among n (names c) → Driven c n
@@ -78,19 +72,17 @@ module _ (c : List Statement) (t : Test) (f : Option Fault) (v w : Name → Bool
           by_source n (among_right (inputs c) (map (λ cell. cell.0) (cells c)) n x)
       go ih (inr (inr x)) =
           let at : Contains c (Gate n x.0 x.1) = contained c (Gate n x.0 x.1) x.2 in
-          p.gate n x.0 x.1 at
-          ∙ (ap (λ bits. under f (line.Stem (signal c n)) (value x.0 bits))
+          p.gate n x.0 x.1 at ∙ (ap (λ bits. under f (line.Stem (signal c n)) (value x.0 bits))
           (pins_agree f v w (signal c n) 0 x.1 (λ a h. ih a (lower a h)
           (among (names c) a (read_named c (Gate n x.0 x.1) a well x.2 h))))
           ∙ sym (q.gate n x.0 x.1 at))
         where
           lower : (a : Name) → Among a x.1 → well.acyclic.0 a < bound
-          lower a h =
-              omega (
-                arith,
-                lt,
-                well.acyclic.1 n a (x.0, x.1, contained c (Gate n x.0 x.1) x.2, contained x.1 a h),
-              )
+          lower a h = omega (
+            arith,
+            lt,
+            well.acyclic.1 n a (x.0, x.1, contained c (Gate n x.0 x.1) x.2, contained x.1 a h),
+          )
 
   pub agree : (n : Name) → Contains (names c) n → v n ≡ w n
   agree n at = below_agree (suc (well.acyclic.0 n)) n (omega arith) (among (names c) n at)

@@ -1,23 +1,17 @@
 -- The classes of launch and capture pairs are the classes of transition faults: if the table has
 -- the same rows for two models, exchanging the model keeps the fault list, next faults and classes.
 use Rattle.std.proofs.Common.{◌≡◌, ℕ, refl, sym, ◌∙◌, ap, subst, Bool, true, false, List, [], ◌∷◌}
-use Rattle.std.proofs.Common.{◌++◌, length, inl, inr}
+use Rattle.std.{proofs.Common.{◌++◌, length, inl, inr}, specs.List.enumerate_from}
 use Rattle.std.specs.Prelude.{Contains, Option, Some, None, slice_get, flat_map, option_map, map}
 use Rattle.std.specs.Prelude.{option_and_then, filter, is_none, if◌then◌else◌}
-use Rattle.std.specs.List.{enumerate_from}
-use Rattle.std.proofs.lemmas.List.{length-map, map-append}
-use Rattle.std.proofs.lemmas.Option.{slice_get-map}
-use Rattle.bench_net.specs.declared.Kind.{Kind}
+use Rattle.std.proofs.lemmas.{List.{length-map, map-append}, Option.slice_get-map}
+use Rattle.bench_net.specs.{declared.Kind.Kind, declared.Sink.Sink, Statement.{Name, Statement}}
 use Rattle.bench_net.specs.declared.Kind.TheVariants.{And, Nand, Or, Nor, Xor, Xnor, Not, Buff}
-use Rattle.bench_net.specs.declared.Sink.{Sink}
-use Rattle.bench_net.specs.declared.Sink.TheVariants as sink
-use Rattle.bench_net.specs.Statement.{Name, Statement}
 use Rattle.bench_net.specs.Scan.{names}
-use Rattle.list_lemmas.proofs.Members.{Among, among, among_map, contained}
-use Rattle.list_lemmas.proofs.Places.{at_place}
+use Rattle.bench_net.specs.declared.Sink.TheVariants as sink
+use Rattle.list_lemmas.proofs.{Members.{Among, among, among_map, contained}, Places.at_place}
 use Rattle.fault_model.specs.declared.Line.TheVariants as line
-use Rattle.fault_model.specs.declared.Model.{Model}
-use Rattle.fault_model.specs.declared.Model.TheVariants.{Transition, TransitionPairs}
+use Rattle.fault_model.specs.declared.Model.{Model, TheVariants.{Transition, TransitionPairs}}
 use Rattle.fault_model.specs.Fault.{Fault, branch, branches, both, faults, faults_of}
 use Rattle.fault_model.specs.Collapse.{next, next_over, next_stuck, readers, kind_of, Reaches, here}
 use Rattle.fault_model.specs.Collapse.{onward, representatives, IsClassOf, Collapsed, AreClassesOf}
@@ -55,8 +49,7 @@ faults_with m n c = signals_with m n c (enumerate_from 0 (names c))
 abbrev HaveSameRows : Model → Model → Type 0
 HaveSameRows m n = (kind : Kind) (b : Bool) → next_stuck n kind b ≡ next_stuck m kind b
 
-none_of_none : (n : Model) (o : Option Fault)
-    → is_none (option_map (with_model n) o) ≡ is_none o
+none_of_none : (n : Model) (o : Option Fault) → is_none (option_map (with_model n) o) ≡ is_none o
 none_of_none n None = refl
 none_of_none n (Some f) = refl
 
@@ -69,26 +62,22 @@ module _ (m n : Model) (c : List Statement) (rows : HaveSameRows m n) where
   over_with b (sink.Pin gate pin ∷ r ∷ rs) = refl
   over_with b (sink.Pin gate pin ∷ []) = by_kind (kind_of c gate)
     where
-      by_bit : (o : Option Bool)
-          → option_map (λ d. fault_on n (line.Stem gate) d) o
+      by_bit : (o : Option Bool) → option_map (λ d. fault_on n (line.Stem gate) d) o
           ≡ option_map (with_model n) (option_map (λ d. fault_on m (line.Stem gate) d) o)
       by_bit None = refl
       by_bit (Some d) = refl
 
-      by_kind : (k : Option Kind)
-          → option_map (λ d. fault_on n (line.Stem gate) d)
+      by_kind : (k : Option Kind) → option_map (λ d. fault_on n (line.Stem gate) d)
           (option_and_then (λ kind. next_stuck n kind b) k)
           ≡ option_map (with_model n) (option_map (λ d. fault_on m (line.Stem gate) d)
           (option_and_then (λ kind. next_stuck m kind b) k))
       by_kind None = refl
-      by_kind (Some kind) =
-          ap (option_map (λ d. fault_on n (line.Stem gate) d)) (rows kind b)
+      by_kind (Some kind) = ap (option_map (λ d. fault_on n (line.Stem gate) d)) (rows kind b)
           ∙ by_bit (next_stuck m kind b)
 
   next_with : (f : Fault) → f.model ≡ m
       → next c (with_model n f) ≡ option_map (with_model n) (next c f)
-  next_with f of =
-      over_with f.stuck (readers c f.line)
+  next_with f of = over_with f.stuck (readers c f.line)
       ∙ ap (λ x. option_map (with_model n) (next_over c x f.stuck (readers c f.line))) (sym of)
 
   -- the faults that are reached
@@ -106,13 +95,11 @@ module _ (m n : Model) (c : List Statement) (rows : HaveSameRows m n) where
       → filter (λ f. is_none (next c f)) (map (with_model n) fs)
       ≡ map (with_model n) (filter (λ f. is_none (next c f)) fs)
   ends_with [] each = refl
-  ends_with (f ∷ fs) each =
-      go (is_none (next c (with_model n f))) (is_none (next c f))
+  ends_with (f ∷ fs) each = go (is_none (next c (with_model n f))) (is_none (next c f))
       (ap is_none (next_with f (each f (inl refl))) ∙ none_of_none n (next c f))
       (ends_with fs (λ g a. each g (inr a)))
     where
-      go : (b d : Bool) → b ≡ d
-          → filter (λ f. is_none (next c f)) (map (with_model n) fs)
+      go : (b d : Bool) → b ≡ d → filter (λ f. is_none (next c f)) (map (with_model n) fs)
           ≡ map (with_model n) (filter (λ f. is_none (next c f)) fs)
           → (if b then with_model n f ∷ filter (λ f. is_none (next c f)) (map (with_model n) fs)
           else filter (λ f. is_none (next c f)) (map (with_model n) fs))
@@ -124,13 +111,11 @@ module _ (m n : Model) (c : List Statement) (rows : HaveSameRows m n) where
       go false true e later = cc
 
   representatives_with : representatives n c ≡ map (with_model n) (representatives m c)
-  representatives_with =
-      ap (filter (λ f. is_none (next c f))) (sym (faults_with m n c))
+  representatives_with = ap (filter (λ f. is_none (next c f))) (sym (faults_with m n c))
       ∙ ends_with (faults m c) (λ f a. listed_model m c f (contained (faults m c) f a))
 
   listed_with : (f : Fault) → Contains (faults m c) f → Contains (faults n c) (with_model n f)
-  listed_with f at =
-      subst (λ fs. Contains fs (with_model n f)) (faults_with m n c)
+  listed_with f at = subst (λ fs. Contains fs (with_model n f)) (faults_with m n c)
       (contained (map (with_model n) (faults m c)) (with_model n f)
       (among_map (with_model n) (faults m c) f (among (faults m c) f at)))
 
@@ -148,8 +133,7 @@ module _ (m n : Model) (c : List Statement) (rows : HaveSameRows m n) where
       )
 
   -- the classes
-  places_with : (places : List ℕ)
-      → map (slice_get (faults n c)) places
+  places_with : (places : List ℕ) → map (slice_get (faults n c)) places
       ≡ map (option_map (with_model n)) (map (slice_get (faults m c)) places)
   places_with [] = refl
   places_with (i ∷ is) =

@@ -2,18 +2,14 @@
 -- detection.
 use Rattle.std.proofs.Common.{◌≡◌, ℕ, zero, suc, Bool, true, false, not, ◌&&◌, List, [], ◌∷◌}
 use Rattle.std.specs.Prelude.{Option, Some, None, option_map, length, slice_index_or, if◌then◌else◌}
-use Rattle.std.specs.Prelude.{bytes_eq}
-use Rattle.std.specs.Option.{option_map_or}
-use Rattle.std.specs.List.{list_any, position_or_len}
+use Rattle.std.specs.{Prelude.bytes_eq, Option.option_map_or, List.{list_any, position_or_len}}
 use Rattle.bench_net.specs.Statement.{Name, Statement, Gate}
 use Rattle.bench_net.specs.Scan.{signal, sources, definition, observers}
 use Rattle.fault_model.specs.declared.Line.TheVariants as line
-use Rattle.fault_model.specs.declared.Model.{Model}
+use Rattle.fault_model.specs.{declared.Model.Model, Fault.{Fault, same_line}, Detection.name_on}
 use Rattle.fault_model.specs.declared.Model.TheVariants.{StuckAt, Transition, TransitionPairs}
-use Rattle.fault_model.specs.Fault.{Fault, same_line}
 use Rattle.fault_model.specs.Solution.{Test, value, under, pins_see, shows}
 use Rattle.fault_model.specs.Collapse.{next, representatives}
-use Rattle.fault_model.specs.Detection.{name_on}
 
 -- the fault after at most this many next faults
 abbrev pub rep_within : ℕ → List Statement → Fault → Fault
@@ -39,8 +35,7 @@ driven c t f v n _ = slice_index_or t (position_or_len (bytes_eq n) (sources c))
 -- the bit of a name, following at most this many gates back
 abbrev pub bit_within : ℕ → List Statement → Test → Option Fault → Name → Bool
 bit_within zero c t f n = false
-bit_within (suc k) c t f n =
-    under f (line.Stem (signal c n))
+bit_within (suc k) c t f n = under f (line.Stem (signal c n))
     (driven c t f (bit_within k c t f) n (definition c (signal c n)))
 
 -- whether the test detects the fault
@@ -48,8 +43,7 @@ abbrev pub differs : Bool → Bool → Bool
 differs a b = if a then not b else b
 
 abbrev pub detects_within : ℕ → List Statement → Test → Fault → Bool
-detects_within k c t f =
-    list_any (λ o. differs (shows None (bit_within k c t None) o)
+detects_within k c t f = list_any (λ o. differs (shows None (bit_within k c t None) o)
     (shows (Some f) (bit_within k c t (Some f)) o)) (observers c)
 
 -- whether a test gives the line of the fault its bit
@@ -69,8 +63,7 @@ fits_within k c f TransitionPairs second before =
 -- second of its pair or not
 abbrev first_from : ℕ → List Statement → Fault → Bool → Option Test → List Test → Option ℕ
 first_from k c f second before [] = None
-first_from k c f second before (t ∷ tests) =
-    if fits_within k c f f.model second before
+first_from k c f second before (t ∷ tests) = if fits_within k c f f.model second before
     && detects_within k c t f then Some 0 else option_map suc
     (first_from k c f (not second) (Some t) tests)
 

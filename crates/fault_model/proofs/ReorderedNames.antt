@@ -1,27 +1,22 @@
 -- Statements in another order: the same names, each defined once, and a circuit again.
-use Rattle.std.proofs.Common.{◌≡◌, ◌≤◌, ℕ, suc, ◌+◌, refl, sym, ◌∙◌, ap, subst, Bool, true}
-use Rattle.std.proofs.Common.{false, cond, List, [], ◌∷◌, length, arith, inl, inr}
+use Rattle.std.proofs.Common.{◌≡◌, ◌≤◌, ℕ, suc, ◌+◌, refl, sym, ◌∙◌, ap, subst, Bool, true, false}
+use Rattle.std.{proofs.Common.{cond, List, [], ◌∷◌, length, arith, inl, inr}, specs.List.sum_by}
 use Rattle.std.specs.Prelude.{Contains, IsPermutation, AllPairs, ◌≢◌, bytes_eq, flat_map}
-use Rattle.std.specs.List.{sum_by}
-use Rattle.std.proofs.lemmas.List.Concat.{length-flat_map}
-use Rattle.std.proofs.lemmas.List.Sums.{sum_by-cons, sum_by-append}
+use Rattle.std.proofs.lemmas.List.{Concat.length-flat_map, Sums.{sum_by-cons, sum_by-append}}
 use Rattle.std.proofs.lemmas.List.Sorted.{Contains-permutation, IsPermutation-sym}
 use Rattle.std.proofs.lemmas.List.Sorted.{length_permutation, sum_by-IsPermutation}
-use Rattle.std.proofs.lemmas.List.Kept.{AllPairs-cons}
-use Rattle.std.proofs.lemmas.List.Elements.{Contains-get_or}
-use Rattle.bench_net.specs.Statement.{Name, Statement, Gate, defined, read}
-use Rattle.bench_net.specs.Scan.{names}
+use Rattle.std.proofs.lemmas.List.{Kept.AllPairs-cons, Elements.Contains-get_or}
+use Rattle.bench_net.specs.{Statement.{Name, Statement, Gate, defined, read}, Scan.names}
 use Rattle.bench_net.specs.Circuit.{IsWellFormed, IsCircuit, sink_count}
+use Rattle.bench_net.proofs.Public.{bytes_refl, same_bytes}
 use Rattle.list_lemmas.proofs.Members.{Among, among, contained, among_joined, joined_from}
 use Rattle.list_lemmas.proofs.Distinct.{Distinct, distinct_from_pairs}
-use Rattle.bench_net.proofs.Public.{bytes_refl, same_bytes}
 
 -- ---- the values of the statements one after another, in another order
 
 pub length_reordered : {X Y : Type 0} (f : X → List Y) (xs ys : List X) → IsPermutation xs ys
     → length (flat_map f ys) ≡ length (flat_map f xs)
-length_reordered f xs ys p =
-    length-flat_map f ys
+length_reordered f xs ys p = length-flat_map f ys
     ∙ (sum_by-IsPermutation (λ x. length (f x)) xs ys p ∙ sym (length-flat_map f xs))
 
 pub given_reordered : {X Y : Type 0} (f : X → List Y) (xs ys : List X) (y : Y)
@@ -40,8 +35,7 @@ abbrev times : Name → List Name → ℕ
 times n ns = sum_by (is_it n) ns
 
 times_own : (n : Name) (ns : List Name) → times n (n ∷ ns) ≡ 1 + times n ns
-times_own n ns = sum_by-cons (is_it n) n ns
-    ∙ ap (λ b. cond b 1 0 + times n ns) (bytes_refl n)
+times_own n ns = sum_by-cons (is_it n) n ns ∙ ap (λ b. cond b 1 0 + times n ns) (bytes_refl n)
 
 times_grow : (n m : Name) (ns : List Name) → times n ns ≤ times n (m ∷ ns)
 times_grow n m ns =
@@ -84,9 +78,7 @@ once_times n (m ∷ ns) d = go (bytes_eq n m) refl (once_times n ns d.1)
 
 pairs_by_times : (ns : List Name) → ((n : Name) → times n ns ≤ 1) → AllPairs (λ m n. m ≢ n) ns
 pairs_by_times [] few = λ i j e lt len. absurd (omega (arith, len))
-pairs_by_times (m ∷ ns) few =
-    AllPairs-cons (λ x y. x ≢ y) m ns
-    (λ k e h same. no_second
+pairs_by_times (m ∷ ns) few = AllPairs-cons (λ x y. x ≢ y) m ns (λ k e h same. no_second
     (subst (λ x. Among x ns) (sym same) (among ns _ (Contains-get_or ns k e h))))
     (pairs_by_times ns (λ n. omega (arith, few n, times_grow n m ns)))
   where
@@ -100,8 +92,7 @@ pairs_by_times (m ∷ ns) few =
 times_joined : (f : Statement → List Name) (n : Name) (c : List Statement)
     → times n (flat_map f c) ≡ sum_by (λ st. times n (f st)) c
 times_joined f n [] = refl
-times_joined f n (st ∷ c) =
-    sum_by-append (is_it n) (f st) (flat_map f c)
+times_joined f n (st ∷ c) = sum_by-append (is_it n) (f st) (flat_map f c)
     ∙ (ap (λ k. times n (f st) + k) (times_joined f n c)
     ∙ sym (sum_by-cons (λ x. times n (f x)) st c))
 
@@ -111,8 +102,7 @@ once_reordered c d p once = pairs_by_times (names d) few
   where
     few : (n : Name) → times n (names d) ≤ 1
     few n =
-        let same : times n (names d) ≡ times n (names c) =
-        times_joined defined n d
+        let same : times n (names d) ≡ times n (names c) = times_joined defined n d
         ∙ (sum_by-IsPermutation (λ st. times n (defined st)) c d p
         ∙ sym (times_joined defined n c)) in
         let most : times n (names c) ≤ 1 =
@@ -148,8 +138,7 @@ well_reordered c d p well = record {
 pub circuit_reordered : (c d : List Statement) → IsPermutation c d → IsCircuit c → IsCircuit d
 circuit_reordered c d p is = record {
   well_formed = well_reordered c d p is.well_formed;
-  arities = λ n kind args at.
-      is.arities n kind args (Contains-permutation d c (Gate n kind args)
+  arities = λ n kind args at. is.arities n kind args (Contains-permutation d c (Gate n kind args)
       (IsPermutation-sym c d p) at);
   signals =
       let same : length (names d) ≡ length (names c) = length_reordered defined c d p in

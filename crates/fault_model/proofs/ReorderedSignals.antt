@@ -1,18 +1,15 @@
 -- Statements in another order: the same signals by other numbers.
-use Rattle.std.proofs.Common.{◌≡◌, ◌<◌, ◌≤◌, ℕ, refl, sym, ◌∙◌, ap, subst, List, []}
-use Rattle.std.proofs.Common.{◌∷◌, length, get_or, map, arith, inl, inr, ◌⊎◌}
-use Rattle.std.specs.Prelude.{Contains, Option, Some, None, option_map}
-use Rattle.std.specs.Prelude.{◌↔◌}
-use Rattle.std.specs.Option.{option_map_or}
+use Rattle.std.proofs.Common.{◌≡◌, ◌<◌, ◌≤◌, ℕ, refl, sym, ◌∙◌, ap, subst, List, [], ◌∷◌, length}
+use Rattle.std.{proofs.Common.{get_or, map, arith, inl, inr, ◌⊎◌}, specs.Option.option_map_or}
+use Rattle.std.specs.Prelude.{Contains, Option, Some, None, option_map, ◌↔◌}
 use Rattle.std.proofs.lemmas.Option.{slice_get_cases, slice_get_past}
 use Rattle.std.proofs.lemmas.List.Sorted.{Contains-permutation, IsPermutation-sym}
 use Rattle.bench_net.specs.Statement.{Name, Statement, Gate, Input, Dff, Output, defined}
 use Rattle.bench_net.specs.Scan.{names, name_of, signal, definition, gate_of, gate_line, sources}
-use Rattle.bench_net.specs.Circuit.{IsWellFormed}
-use Rattle.bench_net.specs.Level.{AreLevels, HasLevel}
+use Rattle.bench_net.specs.{Circuit.IsWellFormed, Level.{AreLevels, HasLevel}}
+use Rattle.bench_net.proofs.Public.{name_of-signal, signal-name_of, definition_defines, read_named}
 use Rattle.list_lemmas.proofs.Members.{Among, contained}
 use Rattle.list_lemmas.proofs.Places.{at_place, place_within, within_place}
-use Rattle.bench_net.proofs.Public.{name_of-signal, signal-name_of, definition_defines, read_named}
 use Rattle.fault_model.proofs.SignalsDefined.{definition-signal, signal_apart}
 use Rattle.fault_model.proofs.ReorderedNames.{well_reordered, length_reordered, given_reordered}
 use Rattle.fault_model.specs.Reordered.{IsReordered, place, moved_gate, HasSameSignals}
@@ -46,11 +43,9 @@ module _ (c d : List Statement) (well : IsWellFormed c) (is : IsReordered c d) w
   moves s = go (name_of c s) refl
     where
       go : (o : Option Name) → name_of c s ≡ o → Moves s
-      go (Some n) e =
-          of n (contained (names c) n (at_place (names c) s n e)) e
+      go (Some n) e = of n (contained (names c) n (at_place (names c) s n e)) e
           (ap (λ o. option_map_or (signal d) o s) e)
-      go None e =
-          past (beyond (slice_get_cases (names c) s).1) e
+      go None e = past (beyond (slice_get_cases (names c) s).1) e
           (ap (λ o. option_map_or (signal d) o s) e)
         where
           beyond : ((n : Name) × (s < length (names c)) × (name_of c s ≡ Some n)
@@ -95,16 +90,13 @@ module _ (c d : List Statement) (well : IsWellFormed c) (is : IsReordered c d) w
           ap (name_of d) stays ∙ (slice_get_past (names d) s beyond ∙ sym none)
 
   pub numbered : (n : Name) → Contains (names c) n → signal d n ≡ place c d (signal c n)
-  numbered n at =
-      sym (ap (λ o. option_map_or (signal d) o (signal c n)) (name_of-signal c n at))
+  numbered n at = sym (ap (λ o. option_map_or (signal d) o (signal c n)) (name_of-signal c n at))
 
   pub named_back : (n : Name) → Contains (names d) n → Contains (names c) n
-  named_back n at =
-      given_reordered defined d c n (IsPermutation-sym c d is.statements) at
+  named_back n at = given_reordered defined d c n (IsPermutation-sym c d is.statements) at
 
   -- each number of a signal in the second list is one that moved there
-  pub onto : (s : ℕ) → s < length (names d)
-      → (t : ℕ) × (t < length (names c)) × (s ≡ place c d t)
+  pub onto : (s : ℕ) → s < length (names d) → (t : ℕ) × (t < length (names c)) × (s ≡ place c d t)
   onto s lt =
       let at = within_place (names d) s lt in
       let there = contained (names d) at.0 (at_place (names d) s at.0 at.1) in
@@ -125,8 +117,7 @@ module _ (c d : List Statement) (well : IsWellFormed c) (is : IsReordered c d) w
       go (Some st) p e g =
           let by = definition_defines c s st e in
           let stands = contained c st by.3 in
-          let there : place c d s ≡ signal d by.0 =
-          ap (λ o. option_map_or (signal d) o s) by.2 in
+          let there : place c d s ≡ signal d by.0 = ap (λ o. option_map_or (signal d) o s) by.2 in
           ap (definition d) there
           ∙ (definition-signal d st by.0 well_there (stands_there st stands) by.1 ∙ sym e)
       go None None e g = g ∙ sym e
@@ -149,12 +140,10 @@ module _ (c d : List Statement) (well : IsWellFormed c) (is : IsReordered c d) w
       let rest = arguments_moved args (λ b h. known b (inr h)) in
       cc
 
-  same_gate : (s : ℕ)
-      → gate_of d (place c d s) ≡ option_map (moved_gate c d) (gate_of c s)
+  same_gate : (s : ℕ) → gate_of d (place c d s) ≡ option_map (moved_gate c d) (gate_of c s)
   same_gate s = ap (gate_line d) (same_definition s) ∙ go (definition c s) refl
     where
-      go : (o : Option Statement) → definition c s ≡ o
-          → gate_line d (definition c s)
+      go : (o : Option Statement) → definition c s ≡ o → gate_line d (definition c s)
           ≡ option_map (moved_gate c d) (gate_line c (definition c s))
       go None e = rw e refl
       go (Some (Input n)) e = rw e refl

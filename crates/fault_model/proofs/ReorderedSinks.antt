@@ -1,46 +1,35 @@
 -- Statements in another order: the same sinks of each name, and the same faults on moved lines.
-use Rattle.std.proofs.Common.{◌≡◌, ℕ, refl, sym, ◌∙◌, ap, subst, Bool, true, false, List}
-use Rattle.std.proofs.Common.{[], ◌∷◌, ◌+◌, map, length, length-append, arith, inl, inr, ◌⊎◌}
+use Rattle.std.proofs.Common.{◌≡◌, ℕ, refl, sym, ◌∙◌, ap, subst, Bool, true, false, List, [], ◌∷◌}
+use Rattle.std.proofs.Common.{◌+◌, map, length, length-append, arith, inl, inr, ◌⊎◌}
 use Rattle.std.specs.Prelude.{Contains, Option, Some, None, option_map, flat_map, bytes_eq}
-use Rattle.std.specs.Prelude.{if◌then◌else◌, nat_le}
-use Rattle.std.specs.Option.{option_map_or}
-use Rattle.std.specs.List.{position_or_len}
+use Rattle.std.specs.{Prelude.{if◌then◌else◌, nat_le}, Option.option_map_or, List.position_or_len}
 use Rattle.std.proofs.lemmas.List.{length-map}
-use Rattle.bench_net.specs.declared.Sink.{Sink}
-use Rattle.bench_net.specs.declared.Sink.TheVariants as sink
+use Rattle.bench_net.specs.{declared.Sink.Sink, Circuit.IsWellFormed}
 use Rattle.bench_net.specs.Statement.{Name, Statement, Input, Output, Gate, Dff}
-use Rattle.bench_net.specs.Scan.{names, signal, name_of, cell, outputs, places, pins_of}
-use Rattle.bench_net.specs.Scan.{sinks}
-use Rattle.bench_net.specs.Circuit.{IsWellFormed}
+use Rattle.bench_net.specs.Scan.{names, signal, name_of, cell, outputs, places, pins_of, sinks}
+use Rattle.bench_net.specs.declared.Sink.TheVariants as sink
 use Rattle.list_lemmas.proofs.Members.{Among, among, contained, among_append, among_left}
 use Rattle.list_lemmas.proofs.Members.{among_right, among_joined, joined_from, among_map}
 use Rattle.list_lemmas.proofs.Members.{mapped_from}
-use Rattle.fault_model.specs.declared.Line.{Line}
-use Rattle.fault_model.specs.declared.Line.TheVariants as line
-use Rattle.fault_model.specs.declared.Model.{Model}
-use Rattle.fault_model.specs.Fault.{Fault, branch, branches, faults}
-use Rattle.fault_model.specs.Collapse.{readers}
-use Rattle.fault_model.specs.Known.{only_gate}
+use Rattle.fault_model.specs.{declared.Line.Line, declared.Model.Model, Collapse.readers}
+use Rattle.fault_model.specs.{Fault.{Fault, branch, branches, faults}, Known.only_gate}
 use Rattle.fault_model.specs.Reordered.{IsReordered, place, moved_line, moved_fault, moved_sink}
-use Rattle.fault_model.specs.Reordered.{HasSameSinks}
-use Rattle.fault_model.proofs.SignalsDefined.{defined_among}
+use Rattle.fault_model.{specs.Reordered.HasSameSinks, proofs.SignalsDefined.defined_among}
 use Rattle.fault_model.proofs.ListedFaults.{fault_on, IsOn, listed_on, listed_model, stem_listed}
-use Rattle.fault_model.proofs.ListedFaults.{branch_listed}
-use Rattle.fault_model.proofs.ReorderedNames.{length_reordered}
+use Rattle.fault_model.proofs.{ListedFaults.branch_listed, ReorderedNames.length_reordered}
 use Rattle.fault_model.proofs.ReorderedSignals.{numbered, same_name, stands_there, stands_back}
+use Rattle.fault_model.specs.declared.Line.TheVariants as line
 
 -- as many sinks of a statement in whichever list it stands
 count_of : (c d : List Statement) (n : Name) (st : Statement)
     → length (pins_of d n st) ≡ length (pins_of c n st)
 count_of c d n (Input m) = refl
 count_of c d n (Output m) = refl
-count_of c d n (Gate g kind args) =
-    length-map (places n args) (λ pin. sink.Pin (signal d g) pin)
+count_of c d n (Gate g kind args) = length-map (places n args) (λ pin. sink.Pin (signal d g) pin)
     ∙ sym (length-map (places n args) (λ pin. sink.Pin (signal c g) pin))
 count_of c d n (Dff q x) = go (bytes_eq n x)
   where
-    go : (b : Bool)
-        → length (if b then sink.Data (cell d q) ∷ [] else [])
+    go : (b : Bool) → length (if b then sink.Data (cell d q) ∷ [] else [])
         ≡ length (if b then sink.Data (cell c q) ∷ [] else [])
     go true = refl
     go false = refl
@@ -81,16 +70,13 @@ module _ (c d : List Statement) (well : IsWellFormed c) (is : IsReordered c d) w
       → pins_of d n st ≡ map (moved_sink c d) (pins_of c n st)
   of_statement n (Input m) at = refl
   of_statement n (Output m) at = refl
-  of_statement n (Gate g kind args) at =
-      pins_moved n g (places n args) (contained (names c) g
+  of_statement n (Gate g kind args) at = pins_moved n g (places n args) (contained (names c) g
       (defined_among c (Gate g kind args) g (among c (Gate g kind args) at) refl))
-  of_statement n (Dff q x) at =
-      ap (λ k. if bytes_eq n x then sink.Data k ∷ [] else [])
+  of_statement n (Dff q x) at = ap (λ k. if bytes_eq n x then sink.Data k ∷ [] else [])
       (ap (λ all. position_or_len (bytes_eq q) (map (λ (qd : Name × Name). qd.0) all))
       is.same_cells) ∙ go (bytes_eq n x)
     where
-      go : (b : Bool)
-          → (if b then sink.Data (cell c q) ∷ [] else [])
+      go : (b : Bool) → (if b then sink.Data (cell c q) ∷ [] else [])
           ≡ map (moved_sink c d) (if b then sink.Data (cell c q) ∷ [] else [])
       go true = refl
       go false = refl
@@ -185,17 +171,14 @@ module _ (c d : List Statement) (well : IsWellFormed c) (is : IsReordered c d) w
   alone (line.Pin gate pin) = refl
   alone (line.Data i) = refl
   alone (line.Out o) = refl
-  alone (line.Stem s) =
-      ap (λ o. only_gate (option_map_or (sinks d) o [])) (same_name c d well is s)
+  alone (line.Stem s) = ap (λ o. only_gate (option_map_or (sinks d) o [])) (same_name c d well is s)
       ∙ go (name_of c s)
     where
-      go : (o : Option Name)
-          → only_gate (option_map_or (sinks d) o [])
+      go : (o : Option Name) → only_gate (option_map_or (sinks d) o [])
           ≡ option_map (place c d) (only_gate (option_map_or (sinks c) o []))
       go None = refl
       go (Some n) = of_sinks (sinks c n) (sinks d n) (count n)
-          (λ k a. among (sinks d n) (moved_sink c d k)
-          (sinks_to n k (contained (sinks c n) k a)))
+          (λ k a. among (sinks d n) (moved_sink c d k) (sinks_to n k (contained (sinks c n) k a)))
 
   -- ---- faults of the list
 
@@ -208,8 +191,7 @@ module _ (c d : List Statement) (well : IsWellFormed c) (is : IsReordered c d) w
       → Among (moved_sink c d k) (branches d n)
   branches_to n k a = go (nat_le 2 (length (sinks c n))) refl
     where
-      go : (b : Bool) → nat_le 2 (length (sinks c n)) ≡ b
-          → Among (moved_sink c d k) (branches d n)
+      go : (b : Bool) → nat_le 2 (length (sinks c n)) ≡ b → Among (moved_sink c d k) (branches d n)
       go false e = let none : ⊥ = rw e at a in absurd none
       go true e =
           let own : Among k (sinks c n) = rw e at a in
@@ -222,8 +204,7 @@ module _ (c d : List Statement) (well : IsWellFormed c) (is : IsReordered c d) w
   listed m f at = let p = listed_on m c f at in go p.0 p.1 p.2 p.3
     where
       same : (l : Line) → moved_line c d f.line ≡ l → fault_on m l f.stuck ≡ moved_fault c d f
-      same l e =
-          ap (λ x. fault_on x l f.stuck) (sym (listed_model m c f at))
+      same l e = ap (λ x. fault_on x l f.stuck) (sym (listed_model m c f at))
           ∙ ap (λ x. fault_on f.model x f.stuck) (sym e)
 
       go : (s : ℕ) (n : Name) → name_of c s ≡ Some n → IsOn c s n f.line

@@ -1,34 +1,29 @@
 -- Statements in another order: the same valuations solve, and the same tests detect a fault.
-use Rattle.std.proofs.Common.{◌≡◌, ℕ, zero, suc, refl, sym, ◌∙◌, ap, subst, Bool, false, ◌&&◌}
-use Rattle.std.proofs.Common.{List, [], ◌∷◌, ◌+◌, map, ◌==◌, arith, inl, inr, ◌⊎◌, if◌then◌else◌}
+use Rattle.std.proofs.Common.{◌≡◌, ℕ, zero, suc, refl, sym, ◌∙◌, ap, subst, Bool, false, ◌&&◌, List}
+use Rattle.std.proofs.Common.{[], ◌∷◌, ◌+◌, map, ◌==◌, arith, inl, inr, ◌⊎◌, if◌then◌else◌}
 use Rattle.std.specs.Prelude.{◌↔◌, Contains, Option, Some, None, option_map, slice_get}
-use Rattle.std.specs.Prelude.{slice_index_or}
-use Rattle.std.specs.List.{enumerate_from}
+use Rattle.std.specs.{Prelude.slice_index_or, List.enumerate_from}
 use Rattle.std.proofs.lemmas.Bool.Decides.{nat_tests}
-use Rattle.bench_net.specs.declared.Kind.{Kind}
-use Rattle.bench_net.specs.declared.Sink.{Sink}
-use Rattle.bench_net.specs.declared.Sink.TheVariants as sink
+use Rattle.bench_net.specs.{declared.Kind.Kind, declared.Sink.Sink, Circuit.IsWellFormed}
 use Rattle.bench_net.specs.Statement.{Name, Statement, Gate}
 use Rattle.bench_net.specs.Scan.{names, signal, sources, observers, outputs, cells}
-use Rattle.bench_net.specs.Circuit.{IsWellFormed}
+use Rattle.bench_net.specs.declared.Sink.TheVariants as sink
 use Rattle.list_lemmas.proofs.Members.{Among, among, contained, among_append, mapped_from}
 use Rattle.list_lemmas.proofs.Places.{at_place}
 use Rattle.fault_model.proofs.SignalsDefined.{defined_among, source_named}
-use Rattle.fault_model.specs.declared.Line.{Line}
-use Rattle.fault_model.specs.declared.Line.TheVariants as line
-use Rattle.fault_model.specs.declared.Model.{Model}
+use Rattle.fault_model.specs.declared.{Line.Line, Model.Model}
 use Rattle.fault_model.specs.declared.Model.TheVariants.{StuckAt, Transition, TransitionPairs}
 use Rattle.fault_model.specs.Fault.{Fault, branch, same_line}
 use Rattle.fault_model.specs.Solution.{Test, under, sees, pins_see, shows, value}
 use Rattle.fault_model.specs.Detection.{name_on, argument, IsInitialized, LooksBack}
-use Rattle.fault_model.specs.Reordered.{IsReordered, place, moved_line, moved_fault}
-use Rattle.fault_model.specs.Reordered.{IsSolvedSame, IsDetectedSame, HasSameBits, IsDetectedSameAt}
+use Rattle.fault_model.specs.Reordered.{IsReordered, place, moved_line, moved_fault, IsSolvedSame}
+use Rattle.fault_model.specs.Reordered.{IsDetectedSame, HasSameBits, IsDetectedSameAt}
 use Rattle.fault_model.proofs.ReorderedSignals.{apart, numbered, same_name, same_definition}
 use Rattle.fault_model.proofs.ReorderedSignals.{same_sources, stands_there, stands_back}
+use Rattle.fault_model.specs.declared.Line.TheVariants as line
 
 -- two numbers are equal exactly if the numbers that they move to are
-same_test : (f : ℕ → ℕ) → ((s t : ℕ) → f s ≡ f t → s ≡ t) → (s t : ℕ)
-    → (f s == f t) ≡ (s == t)
+same_test : (f : ℕ → ℕ) → ((s t : ℕ) → f s ≡ f t → s ≡ t) → (s t : ℕ) → (f s == f t) ≡ (s == t)
 same_test f one s t =
     let only : f s ≡ f t → s ≡ t = one s t in
     let all : s ≡ t → f s ≡ f t = ap f in
@@ -70,8 +65,7 @@ module _ (c d : List Statement) (well : IsWellFormed c) (is : IsReordered c d) w
       cc
 
   gate_moved : (f : Option Fault) (v : Name → Bool) (n : Name) (kind : Kind) (args : List Name)
-      → Contains (names c) n
-      → under (option_map (moved_fault c d) f) (line.Stem (signal d n))
+      → Contains (names c) n → under (option_map (moved_fault c d) f) (line.Stem (signal d n))
       (value kind (pins_see (option_map (moved_fault c d) f) v (signal d n) args))
       ≡ under f (line.Stem (signal c n)) (value kind (pins_see f v (signal c n) args))
   gate_moved f v n kind args at =
@@ -80,8 +74,7 @@ module _ (c d : List Statement) (well : IsWellFormed c) (is : IsReordered c d) w
       ap (λ s. pins_see (option_map (moved_fault c d) f) v s args) (numbered c d well is n at)
       ∙ pins_moved f v (signal c n) 0 args in
       ap (λ bits. under (option_map (moved_fault c d) f) (line.Stem (signal d n)) (value kind bits))
-      pins
-      ∙ stem_moved f n (value kind (pins_see f v (signal c n) args)) at
+      pins ∙ stem_moved f n (value kind (pins_see f v (signal c n) args)) at
 
   source_known : (i : ℕ) (n : Name) → slice_get (sources c) i ≡ Some n → Contains (names c) n
   source_known i n e = contained (names c) n (source_named c n (at_place (sources c) i n e))
@@ -104,11 +97,9 @@ module _ (c d : List Statement) (well : IsWellFormed c) (is : IsReordered c d) w
           p.gate n kind args here ∙ sym (gate_moved f v n kind args (gate_known n kind args here));
     },
     λ p. record {
-      source = λ i n e.
-          p.source i n (ap (λ ns. slice_get ns i) (same_sources c d well is) ∙ e)
+      source = λ i n e. p.source i n (ap (λ ns. slice_get ns i) (same_sources c d well is) ∙ e)
           ∙ stem_moved f n (slice_index_or t i false) (source_known i n e);
-      gate = λ n kind args at.
-          p.gate n kind args (stands_there c d well is (Gate n kind args) at)
+      gate = λ n kind args at. p.gate n kind args (stands_there c d well is (Gate n kind args) at)
           ∙ gate_moved f v n kind args (gate_known n kind args at);
     },
   )
@@ -119,12 +110,9 @@ module _ (c d : List Statement) (well : IsWellFormed c) (is : IsReordered c d) w
   same_observers = rw (is.same_outputs, is.same_cells) refl
 
   -- the branch of an observer has its number in both lists
-  stays : (o : Sink × Name) → Contains (observers c) o
-      → moved_line c d (branch o.0) ≡ branch o.0
-  stays o at =
-      go (among_append (map (λ x. (sink.Out x.0, x.1)) (enumerate_from 0 (outputs c)))
-      (map (λ x. (sink.Data x.0, x.1.1)) (enumerate_from 0 (cells c))) o
-      (among (observers c) o at))
+  stays : (o : Sink × Name) → Contains (observers c) o → moved_line c d (branch o.0) ≡ branch o.0
+  stays o at = go (among_append (map (λ x. (sink.Out x.0, x.1)) (enumerate_from 0 (outputs c)))
+      (map (λ x. (sink.Data x.0, x.1.1)) (enumerate_from 0 (cells c))) o (among (observers c) o at))
     where
       go : Among o (map (λ x. (sink.Out x.0, x.1)) (enumerate_from 0 (outputs c)))
           ⊎ Among o (map (λ x. (sink.Data x.0, x.1.1)) (enumerate_from 0 (cells c)))
@@ -168,8 +156,7 @@ module _ (c d : List Statement) (well : IsWellFormed c) (is : IsReordered c d) w
 
   carried_same : (l : Line) → name_on d (moved_line c d l) ≡ name_on c l
   carried_same (line.Stem s) = same_name c d well is s
-  carried_same (line.Pin gate pin) =
-      ap (λ o. argument o pin) (same_definition c d well is gate)
+  carried_same (line.Pin gate pin) = ap (λ o. argument o pin) (same_definition c d well is gate)
   carried_same (line.Data i) = rw is.same_cells refl
   carried_same (line.Out o) = rw is.same_outputs refl
 

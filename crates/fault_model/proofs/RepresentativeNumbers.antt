@@ -1,17 +1,13 @@
 -- Numbering the faults without a next, in the order of the list.
 use Rattle.std.proofs.Common.{◌≡◌, ◌<◌, ◌≤◌, ℕ, ◌+◌, refl, sym, ◌∙◌, ap, subst, Bool, true, false}
 use Rattle.std.proofs.Common.{List, [], ◌∷◌, ◌++◌, length, take, arith, inl, inr, ◌⊎◌}
-use Rattle.std.proofs.Common.{length-append}
+use Rattle.std.{proofs.Common.length-append, specs.Prelude.{option_and_then, if◌then◌else◌}}
 use Rattle.std.specs.Prelude.{Option, Some, None, slice_get, map, filter, is_none, option_map}
-use Rattle.std.specs.Prelude.{option_and_then, if◌then◌else◌}
 use Rattle.std.proofs.lemmas.List.{length-map, append-nil}
 use Rattle.bench_net.specs.Statement.{Statement}
-use Rattle.list_lemmas.proofs.Members.{contained}
-use Rattle.list_lemmas.proofs.Places.{at_place, place_within}
-use Rattle.fault_model.specs.declared.Model.{Model}
-use Rattle.fault_model.specs.Fault.{Fault, faults}
+use Rattle.list_lemmas.proofs.{Members.contained, Places.{at_place, place_within}}
+use Rattle.fault_model.specs.{declared.Model.Model, Fault.{Fault, faults}, Known.HasEnds}
 use Rattle.fault_model.specs.Collapse.{next, here, representatives, IsClassOf}
-use Rattle.fault_model.specs.Known.{HasEnds}
 use Rattle.fault_model.proofs.FrontParts.{take_next, take_all, at_front, at_end, below_or_at}
 
 -- the representatives among the first faults
@@ -54,8 +50,7 @@ module _ (m : Model) (c : List Statement) (k : ℕ) (f : Fault) (class_of reps :
     (there : slice_get (faults m c) k ≡ Some f) (b : Numbered m c k class_of reps) where
   below_more : ends_below m c (k + 1)
       ≡ ends_below m c k ++ (if is_none (next c f) then f ∷ [] else [])
-  below_more =
-      ap (filter (λ g. is_none (next c g))) (take_next (faults m c) k f there)
+  below_more = ap (filter (λ g. is_none (next c g))) (take_next (faults m c) k f there)
       ∙ filter_push (λ g. is_none (next c g)) (take k (faults m c)) f
 
   count_more : length (class_of ++ length reps ∷ []) ≡ k + 1
@@ -93,11 +88,9 @@ module _ (m : Model) (c : List Statement) (k : ℕ) (f : Fault) (class_of reps :
           omega (arith, h, b.few)
 
       are : map (slice_get (faults m c)) (reps ++ k ∷ []) ≡ map Some (ends_below m c (k + 1))
-      are =
-          map_push (slice_get (faults m c)) reps k
+      are = map_push (slice_get (faults m c)) reps k
           ∙ (ap (λ x. map (slice_get (faults m c)) reps ++ x ∷ []) there
-          ∙ (ap (λ xs. xs ++ Some f ∷ []) b.reps_are
-          ∙ (sym (map_push Some (ends_below m c k) f)
+          ∙ (ap (λ xs. xs ++ Some f ∷ []) b.reps_are ∙ (sym (map_push Some (ends_below m c k) f)
           ∙ ap (map Some) (sym more))))
 
       each : HaveNumbers m c (k + 1) (class_of ++ length reps ∷ [])
@@ -131,9 +124,7 @@ module _ (m : Model) (c : List Statement) (k : ℕ) (f : Fault) (class_of reps :
   }
     where
       more : ends_below m c (k + 1) ≡ ends_below m c k
-      more =
-          below_more
-          ∙ (ap (λ o. ends_below m c k ++ (if is_none o then f ∷ [] else [])) some
+      more = below_more ∙ (ap (λ o. ends_below m c k ++ (if is_none o then f ∷ [] else [])) some
           ∙ append-nil (ends_below m c k))
 
       few_more : length reps ≤ k + 1
@@ -153,8 +144,7 @@ module _ (m : Model) (c : List Statement) (k : ℕ) (f : Fault) (class_of reps :
 
 -- the result: the place of the next fault, or none
 pub answer_none : (m : Model) (c : List Statement) (k : ℕ) (f : Fault) (r : Option ℕ)
-    → slice_get (faults m c) k ≡ Some f
-    → option_map (slice_get (faults m c)) r
+    → slice_get (faults m c) k ≡ Some f → option_map (slice_get (faults m c)) r
     ≡ option_map Some (option_and_then (next c) (slice_get (faults m c) k)) → is_none r ≡ true
     → next c f ≡ None
 answer_none m c k f None there e answer =
@@ -168,8 +158,7 @@ answer_none m c k f None there e answer =
 answer_none m c k f (Some j) there e answer = let bad : false ≡ true = answer in cc
 
 pub answer_some : (m : Model) (c : List Statement) (k j : ℕ) (f : Fault)
-    → slice_get (faults m c) k ≡ Some f
-    → option_map (slice_get (faults m c)) (Some j)
+    → slice_get (faults m c) k ≡ Some f → option_map (slice_get (faults m c)) (Some j)
     ≡ option_map Some (option_and_then (next c) (slice_get (faults m c) k))
     → (g : Fault) × (next c f ≡ Some g) × (slice_get (faults m c) j ≡ Some g)
 answer_some m c k j f there e =
@@ -187,8 +176,7 @@ answer_some m c k j f there e =
         (g, is, same)
 
 pub answer_is_some : (m : Model) (c : List Statement) (k : ℕ) (f : Fault) (r : Option ℕ)
-    → slice_get (faults m c) k ≡ Some f
-    → option_map (slice_get (faults m c)) r
+    → slice_get (faults m c) k ≡ Some f → option_map (slice_get (faults m c)) r
     ≡ option_map Some (option_and_then (next c) (slice_get (faults m c) k)) → is_none r ≡ false
     → (g : Fault) × (next c f ≡ Some g)
 answer_is_some m c k f None there e answer = let bad : true ≡ false = answer in cc

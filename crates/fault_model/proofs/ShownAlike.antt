@@ -2,33 +2,27 @@
 use Rattle.std.proofs.Common.{◌≡◌, ◌<◌, ℕ, zero, suc, ◌+◌, refl, sym, ◌∙◌, ap, subst, Bool, true}
 use Rattle.std.proofs.Common.{false, not, ◌||◌, List, [], ◌∷◌, length, arith, inl, inr, ◌⊎◌}
 use Rattle.std.specs.Prelude.{Contains, Option, Some, None, slice_get, map, unwrap_or, ◌≢◌}
-use Rattle.std.specs.Prelude.{bytes_eq}
-use Rattle.std.specs.List.{enumerate_from, list_all, list_any}
-use Rattle.bench_net.specs.declared.Kind.{Kind}
-use Rattle.bench_net.specs.declared.Kind.TheVariants.{And, Nand, Or, Nor, Not, Buff}
-use Rattle.bench_net.specs.declared.Sink.{Sink}
-use Rattle.bench_net.specs.declared.Sink.TheVariants as sink
-use Rattle.bench_net.specs.Statement.{Name, Statement, Output, Gate, Dff}
-use Rattle.bench_net.specs.Reading.{HasArity}
+use Rattle.std.specs.{Prelude.bytes_eq, List.{enumerate_from, list_all, list_any}}
+use Rattle.bench_net.specs.declared.Kind.{Kind, TheVariants.{And, Nand, Or, Nor, Not, Buff}}
+use Rattle.bench_net.specs.{declared.Sink.Sink, Statement.{Name, Statement, Output, Gate, Dff}}
+use Rattle.bench_net.specs.{Reading.HasArity, Scan.{sinks, observers}}
 use Rattle.bench_net.specs.Scan.{names, signal, definition, inputs, cell, cells, outputs, sources}
-use Rattle.bench_net.specs.Scan.{sinks, observers}
 use Rattle.bench_net.specs.Circuit.{IsWellFormed, HaveArities}
+use Rattle.bench_net.proofs.Public.{same_bytes, bytes_refl, read_named}
+use Rattle.bench_net.specs.declared.Sink.TheVariants as sink
 use Rattle.list_lemmas.proofs.Members.{Among, among, contained, among_left, among_right}
 use Rattle.list_lemmas.proofs.Members.{among_append, among_map, mapped_from}
-use Rattle.bench_net.proofs.Public.{same_bytes, bytes_refl, read_named}
+use Rattle.list_lemmas.proofs.Places.{placed, at_place, among_numbered, numbered_at}
 use Rattle.fault_model.proofs.SignalsDefined.{signal_apart, source_definition, IsSource}
 use Rattle.fault_model.proofs.SignalsDefined.{definition-signal, defined_among, output_in, cell_in}
 use Rattle.fault_model.proofs.SignalsSinks.{pin_among, out_among, data_among}
-use Rattle.list_lemmas.proofs.Places.{placed, at_place, among_numbered, numbered_at}
-use Rattle.fault_model.specs.declared.Line.TheVariants as line
-use Rattle.fault_model.specs.declared.Model.{Model}
-use Rattle.fault_model.specs.declared.Model.TheVariants.{StuckAt}
-use Rattle.fault_model.specs.Fault.{Fault, faults, branch}
+use Rattle.fault_model.specs.declared.Model.{Model, TheVariants.StuckAt}
+use Rattle.fault_model.specs.{Fault.{Fault, faults, branch}, Collapse.{next, next_stuck}}
 use Rattle.fault_model.specs.Solution.{Test, Solves, value, sees, pins_see, shows, ShowSame}
-use Rattle.fault_model.specs.Collapse.{next, next_stuck}
 use Rattle.fault_model.proofs.OneSolution.{Driven, driven}
 use Rattle.fault_model.proofs.ListedFaults.{IsReadBy, under_other, under_own, Step, step_of}
 use Rattle.fault_model.proofs.NextFaultChains.{read_below, read_defined, gate_defined}
+use Rattle.fault_model.specs.declared.Line.TheVariants as line
 
 -- one 0 makes a conjunction 0, and one 1 a disjunction 1
 all_with_false : (bits : List Bool) → Among false bits → list_all (λ b. b) bits ≡ false
@@ -144,8 +138,7 @@ stem_stuck c t f v n p a own = go (driven c n a)
     go : Driven c n → v n ≡ f.stuck
     go (inl h) = by_source (among_left (inputs c) (map (λ cell. cell.0) (cells c)) n h)
     go (inr (inl h)) = by_source (among_right (inputs c) (map (λ cell. cell.0) (cells c)) n h)
-    go (inr (inr h)) =
-        p.gate n h.0 h.1 (contained c (Gate n h.0 h.1) h.2)
+    go (inr (inr h)) = p.gate n h.0 h.1 (contained c (Gate n h.0 h.1) h.2)
         ∙ under_own f (line.Stem (signal c n)) _ own
 
 module _ (c : List Statement) (t : Test) (f g : Fault) (v w : Name → Bool) (well : IsWellFormed c)
@@ -186,12 +179,9 @@ module _ (c : List Statement) (t : Test) (f g : Fault) (v w : Name → Bool) (we
     where
       go : IsReadBy c f.line s.read (signal c s.name) s.pin
           → sees (Some f) v (line.Pin (signal c s.name) s.pin) s.read ≡ f.stuck
-      go (inl on) =
-          under_other f (line.Pin (signal c s.name) s.pin) (v s.read)
-          (λ e.
+      go (inl on) = under_other f (line.Pin (signal c s.name) s.pin) (v s.read) (λ e.
           let h : line.Stem (signal c s.read) ≡ line.Pin (signal c s.name) s.pin = sym on.0 ∙ e in
-          cc)
-          ∙ stem_stuck c t f v s.read p (read_defined c well f g s) on.0
+          cc) ∙ stem_stuck c t f v s.read p (read_defined c well f g s) on.0
       go (inr on) = under_own f (line.Pin (signal c s.name) s.pin) (v s.read) on
 
   -- so the gate has the same bit under both faults
@@ -200,12 +190,10 @@ module _ (c : List Statement) (t : Test) (f g : Fault) (v w : Name → Bool) (we
       let stands : Contains c (Gate s.name s.kind s.args) =
       contained c (Gate s.name s.kind s.args) s.stands in
       let bits : List Bool = pins_see (Some f) v (signal c s.name) s.args in
-      let seen : Among f.stuck bits =
-      subst (λ b. Among b bits) pin_stuck
+      let seen : Among f.stuck bits = subst (λ b. Among b bits) pin_stuck
       (among_map (λ at. sees (Some f) v (line.Pin (signal c s.name) at.0) at.1)
       (enumerate_from 0 s.args) (s.pin, s.read) (among_numbered s.args s.pin s.read s.reads)) in
-      p.gate s.name s.kind s.args stands
-      ∙ (under_other f (line.Stem (signal c s.name)) _ gate_free
+      p.gate s.name s.kind s.args stands ∙ (under_other f (line.Stem (signal c s.name)) _ gate_free
       ∙ (fixed f.model s.kind f.stuck s.bit s.args bits s.fixes
       (arities s.name s.kind s.args stands) (length_pins (Some f) v (signal c s.name) 0 s.args) seen
       ∙ sym (stem_stuck c t g w s.name q (gate_defined c well f g s) to_line ∙ to_stuck)))
@@ -219,8 +207,7 @@ module _ (c : List Statement) (t : Test) (f g : Fault) (v w : Name → Bool) (we
       go (inl on) =
           let h : line.Stem (signal c s.read) ≡ line.Stem (signal c a) = sym on.0 ∙ e in
           let number : signal c a ≡ signal c s.read = cc in
-          let same : a ≡ s.read =
-          signal_apart c a s.read
+          let same : a ≡ s.read = signal_apart c a s.read
           (read_named c (Gate x kind args) a well stands (at_place args k a reads))
           (contained (names c) s.read (read_defined c well f g s)) number in
           let there : Among (sink.Pin (signal c x) k) (sink.Pin (signal c s.name) s.pin ∷ []) =
@@ -278,8 +265,7 @@ module _ (c : List Statement) (t : Test) (f g : Fault) (v w : Name → Bool) (we
       by_source : Among x (sources c) → v x ≡ w x
       by_source h =
           let at = placed (sources c) x h in
-          p.source at.0 x at.1
-          ∙ (under_other f (line.Stem (signal c x)) _ free
+          p.source at.0 x at.1 ∙ (under_other f (line.Stem (signal c x)) _ free
           ∙ sym (q.source at.0 x at.1
           ∙ under_other g (line.Stem (signal c x)) _ (to_free x a (source_apart x h))))
 
@@ -310,8 +296,7 @@ module _ (c : List Statement) (t : Test) (f g : Fault) (v w : Name → Bool) (we
               let reads : slice_get args at.0 ≡ Some at.1 = numbered_at args at h in
               let named : Contains (names c) at.1 =
               read_named c (Gate x kind args) at.1 well stands (at_place args at.0 at.1 reads) in
-              let lt' : well.acyclic.0 at.1 < well.acyclic.0 x =
-              well.acyclic.1 x at.1 (
+              let lt' : well.acyclic.0 at.1 < well.acyclic.0 x = well.acyclic.1 x at.1 (
                 kind,
                 args,
                 contained c (Gate x kind args) stands,
@@ -319,8 +304,7 @@ module _ (c : List Statement) (t : Test) (f g : Fault) (v w : Name → Bool) (we
               ) in
               under_other f (line.Pin (signal c x) at.0) (v at.1) (pin_free x at.0 a other)
               ∙ (ih at.1 (omega (arith, lt, lt')) (among (names c) at.1 named)
-              (reads_free x at.1 kind args at.0 stands reads other)
-              ∙ sym
+              (reads_free x at.1 kind args at.0 stands reads other) ∙ sym
               (under_other g (line.Pin (signal c x) at.0) (w at.1) (to_pin_free (signal c x) at.0)))
 
       go : ((m : Name) → well.acyclic.0 m < bound → Among m (names c)
@@ -363,8 +347,7 @@ module _ (c : List Statement) (t : Test) (f g : Fault) (v w : Name → Bool) (we
       let h = observes c o well at in
       under_other f (branch o.0) (v o.1) (from_branch_free o h)
       ∙ (below_same (suc (well.acyclic.0 o.1)) o.1 (omega arith) (among (names c) o.1 h.named)
-      (observed_free o h)
-      ∙ sym
+      (observed_free o h) ∙ sym
       (under_other g (branch o.0) (w o.1) (λ e. h.no_stem (signal c s.name) (sym to_line ∙ e))))
 
 -- a fault of the list and its next fault show the same

@@ -1,16 +1,13 @@
 -- How many sinks there are: each place that reads is a sink of one name.
 use Rattle.std.proofs.Common.{◌≡◌, ◌≤◌, ℕ, ◌+◌, refl, sym, ◌∙◌, subst, Bool, true, false, List, []}
 use Rattle.std.proofs.Common.{◌∷◌, ◌++◌, length, arith, inl, inr, length-append}
-use Rattle.std.specs.Prelude.{map, filter, flat_map, bytes_eq, if◌then◌else◌}
-use Rattle.std.specs.List.{enumerate_from}
+use Rattle.std.specs.{Prelude.{map, filter, flat_map, bytes_eq, if◌then◌else◌}, List.enumerate_from}
 use Rattle.std.proofs.Math.ListN.{length-map}
-use Rattle.bench_net.specs.declared.Sink.TheVariants.{Pin, Data, Out}
+use Rattle.bench_net.{specs.declared.Sink.TheVariants.{Pin, Data, Out}, proofs.Public.same_bytes}
 use Rattle.bench_net.specs.Statement.{Name, Statement, Input, Output, Gate, Dff, read}
 use Rattle.bench_net.specs.Scan.{names, signal, outputs, cell, places, pins_of, sinks}
 use Rattle.bench_net.specs.Circuit.{IsWellFormed, sink_count}
-use Rattle.list_lemmas.proofs.Members.{Among}
-use Rattle.bench_net.proofs.Public.{same_bytes}
-use Rattle.list_lemmas.proofs.Distinct.{Distinct, distinct_from_pairs}
+use Rattle.list_lemmas.proofs.{Members.Among, Distinct.{Distinct, distinct_from_pairs}}
 
 -- the number of times that a name is in a list
 abbrev count : Name → List Name → ℕ
@@ -39,8 +36,7 @@ length_kept n from (m ∷ ns) = go (bytes_eq n m) refl (length_kept n (from + 1)
     go false e h = rw e h
 
 length_places : (n : Name) (ns : List Name) → length (places n ns) ≡ count n ns
-length_places n ns =
-    length-map (filter (λ at. bytes_eq n at.1) (enumerate_from 0 ns)) (λ at. at.0)
+length_places n ns = length-map (filter (λ at. bytes_eq n at.1) (enumerate_from 0 ns)) (λ at. at.0)
     ∙ length_kept n 0 ns
 
 -- the readers of a name are the places that read it
@@ -66,11 +62,9 @@ read_by c (Gate g kind args ∷ cs) n =
     (flat_map (pins_of c n) cs) =
     length-append (map (λ pin. Pin (signal c g) pin) (places n args)) (flat_map (pins_of c n) cs) in
     let here_and_later : count n (args ++ flat_map read cs)
-    ≡ count n args + count n (flat_map read cs) =
-    count-append n args (flat_map read cs) in
+    ≡ count n args + count n (flat_map read cs) = count-append n args (flat_map read cs) in
     let later : length (flat_map (pins_of c n) cs) + count n (outputs cs)
-    ≡ count n (flat_map read cs) =
-    read_by c cs n in
+    ≡ count n (flat_map read cs) = read_by c cs n in
     omega (arith, here, both, here_and_later, later)
 read_by c (Dff q d ∷ cs) n = go (bytes_eq n d) (read_by c cs n)
   where

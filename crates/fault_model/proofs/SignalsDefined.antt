@@ -1,22 +1,17 @@
 -- The definitions of names: the definition of a name's number is the one statement that defines the
 -- name.
 use Rattle.std.proofs.Common.{◌≡◌, ℕ, refl, sym, ◌∙◌, ap, subst, Bool, true, false, List, [], ◌∷◌}
-use Rattle.std.proofs.Common.{inl, inr, ◌⊎◌}
-use Rattle.std.specs.Prelude.{Contains, Option, Some, slice_get, map, bytes_eq, unwrap_or}
-use Rattle.std.specs.Prelude.{◌≢◌}
-use Rattle.std.specs.List.{position_or_len}
+use Rattle.std.{proofs.Common.{inl, inr, ◌⊎◌}, specs.List.position_or_len}
+use Rattle.std.specs.Prelude.{Contains, Option, Some, slice_get, map, bytes_eq, unwrap_or, ◌≢◌}
 use Rattle.std.proofs.Math.Numerals.{one-add}
 use Rattle.bench_net.specs.Statement.{Name, Statement, Input, Output, Gate, Dff, defined}
 use Rattle.bench_net.specs.Scan.{names, signal, name_of, definition, inputs, outputs, cells}
-use Rattle.bench_net.specs.Scan.{sources}
-use Rattle.bench_net.specs.Circuit.{IsWellFormed}
-use Rattle.list_lemmas.proofs.Members.{Among, among, contained, among_append}
-pub use Rattle.bench_net.proofs.Public.{defined_among}
+use Rattle.bench_net.{specs.Scan.sources, specs.Circuit.IsWellFormed, proofs.Public.of_input}
 use Rattle.bench_net.proofs.Public.{same_bytes, bytes_refl, at_position, name_of-signal, of_cell}
-use Rattle.bench_net.proofs.Public.{of_input}
+use Rattle.list_lemmas.proofs.{Members.{Among, among, contained, among_append}, Places.at_place}
 use Rattle.list_lemmas.proofs.Distinct.{Distinct, distinct_from_pairs, distinct_between}
 use Rattle.list_lemmas.proofs.Distinct.{one_place_of}
-use Rattle.list_lemmas.proofs.Places.{at_place}
+pub use Rattle.bench_net.proofs.Public.{defined_among}
 
 -- a name other than n is no n for the test of bytes
 bytes_differ : (n m : Name) → m ≢ n → bytes_eq n m ≡ false
@@ -45,20 +40,17 @@ definition_in (Output m ∷ c) st n d (inl h) e = let bad : [] ≡ n ∷ [] = ap
 definition_in (Output m ∷ c) st n d (inr a) e = definition_in c st n d a e
 definition_in (Input m ∷ c) st n d (inl h) e =
     here n m (names c) (Input m) _ (head_is m n st (sym (ap defined h)) e) ∙ ap Some h
-definition_in (Input m ∷ c) st n d (inr a) e =
-    later n m (names c) (Input m) st _
+definition_in (Input m ∷ c) st n d (inr a) e = later n m (names c) (Input m) st _
     (λ same. d.0 (subst (λ x. Among x (names c)) (sym same) (defined_among c st n a e)))
     (definition_in c st n d.1 a e)
 definition_in (Gate m kind args ∷ c) st n d (inl h) e =
     here n m (names c) (Gate m kind args) _ (head_is m n st (sym (ap defined h)) e) ∙ ap Some h
-definition_in (Gate m kind args ∷ c) st n d (inr a) e =
-    later n m (names c) (Gate m kind args) st _
+definition_in (Gate m kind args ∷ c) st n d (inr a) e = later n m (names c) (Gate m kind args) st _
     (λ same. d.0 (subst (λ x. Among x (names c)) (sym same) (defined_among c st n a e)))
     (definition_in c st n d.1 a e)
 definition_in (Dff q x ∷ c) st n d (inl h) e =
     here n q (names c) (Dff q x) _ (head_is q n st (sym (ap defined h)) e) ∙ ap Some h
-definition_in (Dff q x ∷ c) st n d (inr a) e =
-    later n q (names c) (Dff q x) st _
+definition_in (Dff q x ∷ c) st n d (inr a) e = later n q (names c) (Dff q x) st _
     (λ same. d.0 (subst (λ y. Among y (names c)) (sym same) (defined_among c st n a e)))
     (definition_in c st n d.1 a e)
 
@@ -91,8 +83,7 @@ output_in (Output m ∷ c) n (inl e) = inl (ap Output e)
 output_in (Output m ∷ c) n (inr a) = inr (output_in c n a)
 output_in (_ ∷ c) n a = inr (output_in c n a)
 
-pub cell_in : (c : List Statement) (at : Name × Name) → Among at (cells c)
-    → Among (Dff at.0 at.1) c
+pub cell_in : (c : List Statement) (at : Name × Name) → Among at (cells c) → Among (Dff at.0 at.1) c
 cell_in [] at a = absurd a
 cell_in (Dff q d ∷ c) at (inl e) = inl (ap (λ p. Dff p.0 p.1) e)
 cell_in (Dff q d ∷ c) at (inr a) = inr (cell_in c at a)
@@ -143,7 +134,6 @@ distinct_sources (Dff q x ∷ c) d =
 -- a source is at its place
 pub source_place : (c : List Statement) (i : ℕ) (n : Name) → IsWellFormed c
     → slice_get (sources c) i ≡ Some n → position_or_len (bytes_eq n) (sources c) ≡ i
-source_place c i n well e =
-    one_place_of (sources c) (position_or_len (bytes_eq n) (sources c)) i n
+source_place c i n well e = one_place_of (sources c) (position_or_len (bytes_eq n) (sources c)) i n
     (distinct_sources c (distinct_from_pairs (names c) well.once))
     (at_position (sources c) n (at_place (sources c) i n e)) e

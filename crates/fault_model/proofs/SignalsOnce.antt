@@ -1,21 +1,15 @@
 -- Each sink comes once among the sinks of a name, and among the sinks of all names.
 use Rattle.std.proofs.Common.{◌≡◌, ℕ, ◌+◌, refl, sym, ◌∙◌, ap, subst, Bool, true, false, List, []}
-use Rattle.std.proofs.Common.{◌∷◌, arith, inl, inr, ◌⊎◌}
+use Rattle.std.{proofs.Common.{◌∷◌, arith, inl, inr, ◌⊎◌}, specs.Prelude.if◌then◌else◌}
 use Rattle.std.specs.Prelude.{Some, slice_get, map, filter, flat_map, bytes_eq, unwrap_or}
-use Rattle.std.specs.Prelude.{if◌then◌else◌}
 use Rattle.std.specs.List.{enumerate_from}
-use Rattle.bench_net.specs.declared.Kind.{Kind}
-use Rattle.bench_net.specs.declared.Sink.{Sink}
-use Rattle.bench_net.specs.declared.Sink.TheVariants.{Pin, Data, Out}
+use Rattle.bench_net.specs.declared.{Kind.Kind, Sink.Sink, Sink.TheVariants.{Pin, Data, Out}}
 use Rattle.bench_net.specs.Statement.{Name, Statement, Input, Output, Gate, Dff}
 use Rattle.bench_net.specs.Scan.{names, signal, outputs, cells, cell, places, pins_of, sinks}
-use Rattle.bench_net.specs.Circuit.{IsWellFormed}
+use Rattle.bench_net.{specs.Circuit.IsWellFormed, proofs.Public.{same_bytes, at_position}}
 use Rattle.list_lemmas.proofs.Members.{Among, contained, among_append, mapped_from, joined_from}
-use Rattle.list_lemmas.proofs.Members.{filtered_from}
-use Rattle.bench_net.proofs.Public.{same_bytes, at_position}
+use Rattle.list_lemmas.proofs.{Members.filtered_from, Distinct.distinct_map, Places.numbered_from}
 use Rattle.list_lemmas.proofs.Distinct.{Distinct, distinct_from_pairs, distinct_append}
-use Rattle.list_lemmas.proofs.Distinct.{distinct_map}
-use Rattle.list_lemmas.proofs.Places.{numbered_from}
 use Rattle.fault_model.proofs.SignalsDefined.{signal_apart, one_definition, defined_among}
 use Rattle.fault_model.proofs.SignalsSinks.{pin_reads, places_are}
 
@@ -37,8 +31,7 @@ places_from n (m ∷ ns) from = go (bytes_eq n m) refl (places_from n ns (from +
         let place : p.0.0 ≡ from + 1 + r.0 = r.1 in
         absurd (omega (arith, same, place))
 
-    go : (b : Bool) → bytes_eq n m ≡ b
-        → Distinct
+    go : (b : Bool) → bytes_eq n m ≡ b → Distinct
         (map (λ at. at.0) (filter (λ at. bytes_eq n at.1) (enumerate_from (from + 1) ns)))
         → Distinct
         (map (λ at. at.0) (filter (λ at. bytes_eq n at.1) (enumerate_from from (m ∷ ns))))
@@ -141,8 +134,7 @@ q_among (Gate m kind args ∷ c) q d (inr a) = q_among c q d a
 cell_apart : (c : List Statement) (p q d e : Name) → Among (Dff p d) c → Among (Dff q e) c
     → cell c p ≡ cell c q → p ≡ q
 cell_apart c p q d e a b same =
-    let x : Some p ≡ Some q =
-    sym (at_position (map (λ cell. cell.0) (cells c)) p (q_among c p d a))
+    let x : Some p ≡ Some q = sym (at_position (map (λ cell. cell.0) (cells c)) p (q_among c p d a))
     ∙ (ap (slice_get (map (λ cell. cell.0) (cells c))) same
     ∙ at_position (map (λ cell. cell.0) (cells c)) q (q_among c q e b)) in
     ap (λ o. unwrap_or o q) x
@@ -153,8 +145,7 @@ pub one_read : (c : List Statement) (k : Sink) (m n : Name) → IsWellFormed c �
 one_read c (Pin gate pin) m n well a b =
     let p = pin_reads c m gate pin a in
     let q = pin_reads c n gate pin b in
-    let name : p.name ≡ q.name =
-    signal_apart c p.name q.name
+    let name : p.name ≡ q.name = signal_apart c p.name q.name
     (contained (names c) p.name (defined_among c (Gate p.name p.kind p.args) p.name p.stands refl))
     (contained (names c) q.name (defined_among c (Gate q.name q.kind q.args) q.name q.stands refl))
     (p.number ∙ sym q.number) in
@@ -213,8 +204,7 @@ module _ (c : List Statement) (well : IsWellFormed c) (n : Name) where
   gate_later x kind args rest i a inside fresh (Output m) b of = of
   gate_later x kind args rest i a inside fresh (Dff q d) b of = of
   gate_later x kind args rest i a inside fresh (Gate y k more) b of =
-      let same : y ≡ x =
-      signal_apart c y x
+      let same : y ≡ x = signal_apart c y x
       (contained (names c) y (defined_among c (Gate y k more) y (inside (Gate y k more) b) refl))
       (contained (names c) x (defined_among c (Gate x kind args) x a refl)) of in
       fresh (subst (λ z. Among z (names rest)) same (defined_among rest (Gate y k more) y b refl))
@@ -239,8 +229,7 @@ module _ (c : List Statement) (well : IsWellFormed c) (n : Name) where
       distinct_append (map (λ k. Pin (signal c x) k) (places n args)) (flat_map (pins_of c n) rest)
       (distinct_map (λ k. Pin (signal c x) k) (places n args)
       (λ i j e. let it : Pin (signal c x) i ≡ Pin (signal c x) j = e in cc)
-      (distinct_places n args))
-      (pins_once rest (λ st a. inside st (inr a)) d.1) apart
+      (distinct_places n args)) (pins_once rest (λ st a. inside st (inr a)) d.1) apart
     where
       apart : (k : Sink) → Among k (map (λ i. Pin (signal c x) i) (places n args))
           → Among k (flat_map (pins_of c n) rest) → ⊥
@@ -274,8 +263,7 @@ module _ (c : List Statement) (well : IsWellFormed c) (n : Name) where
 
   -- no sink stands twice among the sinks of a name
   pub sinks_once : Distinct (sinks c n)
-  sinks_once =
-      distinct_append (flat_map (pins_of c n) c) (map Out (places n (outputs c)))
+  sinks_once = distinct_append (flat_map (pins_of c n) c) (map Out (places n (outputs c)))
       (pins_once c (λ st a. a) (distinct_from_pairs (names c) well.once))
       (distinct_map Out (places n (outputs c)) (λ i j e. let it : Out i ≡ Out j = e in cc)
       (distinct_places n (outputs c))) apart

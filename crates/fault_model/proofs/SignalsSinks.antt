@@ -1,18 +1,15 @@
 -- Who reads a name: each pin, data pin and output that reads it is among its sinks, and a gate pin
 -- among them reads it.
 use Rattle.std.proofs.Common.{◌≡◌, ℕ, refl, sym, ◌∙◌, ap, subst, Bool, true, false, List, [], ◌∷◌}
-use Rattle.std.proofs.Common.{inl, inr, ◌⊎◌}
+use Rattle.std.{proofs.Common.{inl, inr, ◌⊎◌}, specs.List.enumerate_from}
 use Rattle.std.specs.Prelude.{Some, slice_get, map, filter, flat_map, bytes_eq}
-use Rattle.std.specs.List.{enumerate_from}
-use Rattle.bench_net.specs.declared.Kind.{Kind}
-use Rattle.bench_net.specs.declared.Sink.TheVariants.{Pin, Data, Out}
+use Rattle.bench_net.specs.declared.{Kind.Kind, Sink.TheVariants.{Pin, Data, Out}}
 use Rattle.bench_net.specs.Statement.{Name, Statement, Input, Output, Gate, Dff}
 use Rattle.bench_net.specs.Scan.{signal, outputs, cell, places, pins_of, sinks}
+use Rattle.bench_net.proofs.Public.{same_bytes, bytes_refl}
 use Rattle.list_lemmas.proofs.Members.{Among, among_left, among_right, among_append, among_joined}
 use Rattle.list_lemmas.proofs.Members.{joined_from, among_map, mapped_from, among_filter}
-use Rattle.list_lemmas.proofs.Members.{filtered_from}
-use Rattle.bench_net.proofs.Public.{same_bytes, bytes_refl}
-use Rattle.list_lemmas.proofs.Places.{among_numbered, numbered_at}
+use Rattle.list_lemmas.proofs.{Members.filtered_from, Places.{among_numbered, numbered_at}}
 
 -- the places of a name in a list
 among_places : (n : Name) (ns : List Name) (i : ℕ) → slice_get ns i ≡ Some n → Among i (places n ns)

@@ -2,20 +2,16 @@
 use Rattle.std.proofs.Common.{◌≡◌, ◌<◌, ◌≤◌, ℕ, zero, suc, refl, sym, ◌∙◌, ap, subst, Bool, false}
 use Rattle.std.proofs.Common.{List, [], ◌∷◌, arith}
 use Rattle.std.specs.Prelude.{Contains, Option, Some, None, slice_get, slice_index_or}
-use Rattle.bench_net.specs.declared.Kind.{Kind}
+use Rattle.bench_net.specs.{declared.Kind.Kind, Scan.{names, sources, signal, definition}}
 use Rattle.bench_net.specs.Statement.{Name, Statement, Input, Output, Gate, Dff}
-use Rattle.bench_net.specs.Scan.{names, sources, signal, definition}
 use Rattle.bench_net.specs.Circuit.{IsWellFormed}
-use Rattle.list_lemmas.proofs.Members.{Among, among, contained}
 use Rattle.bench_net.proofs.Public.{definition_defines, name_of-signal, read_named}
+use Rattle.list_lemmas.proofs.{Members.{Among, among, contained}, Places.at_place}
 use Rattle.fault_model.proofs.SignalsDefined.{definition-signal, IsSource, source_definition}
-use Rattle.fault_model.proofs.SignalsDefined.{source_place}
-use Rattle.list_lemmas.proofs.Places.{at_place}
-use Rattle.fault_model.specs.declared.Line.TheVariants as line
-use Rattle.fault_model.specs.Fault.{Fault}
+use Rattle.fault_model.{proofs.SignalsDefined.source_place, specs.Fault.Fault}
 use Rattle.fault_model.specs.Solution.{Test, Solves, value, under, pins_see}
-use Rattle.fault_model.proofs.PlainPrograms.{bit_within, driven}
-use Rattle.fault_model.proofs.OneSolution.{pins_agree}
+use Rattle.fault_model.proofs.{PlainPrograms.{bit_within, driven}, OneSolution.pins_agree}
+use Rattle.fault_model.specs.declared.Line.TheVariants as line
 
 -- a gate that defines a name's number is the gate of that name
 gate_named : (c : List Statement) (n g : Name) (kind : Kind) (args : List Name) → Among n (names c)
@@ -34,8 +30,7 @@ module _ (c : List Statement) (t : Test) (f : Option Fault) (well : IsWellFormed
   steady zero k j n lt hk hj a = absurd (omega (arith, lt))
   steady (suc bound) zero j n lt hk hj a = absurd (omega (arith, hk))
   steady (suc bound) (suc k) zero n lt hk hj a = absurd (omega (arith, hj))
-  steady (suc bound) (suc k) (suc j) n lt hk hj a =
-      ap (under f (line.Stem (signal c n))) (go
+  steady (suc bound) (suc k) (suc j) n lt hk hj a = ap (under f (line.Stem (signal c n))) (go
       (λ m h b. steady bound k j m h (omega (arith, hk)) (omega (arith, hj)) b)
       (definition c (signal c n)) refl)
     where
@@ -54,13 +49,12 @@ module _ (c : List Statement) (t : Test) (f : Option Fault) (well : IsWellFormed
           (among (names c) m (read_named c (Gate n kind args) m well gate h))))
         where
           lower : Among (Gate n kind args) c → (m : Name) → Among m args → well.acyclic.0 m < bound
-          lower gate m h =
-              omega (
-                arith,
-                lt,
-                well.acyclic.1 n m
-                    (kind, args, contained c (Gate n kind args) gate, contained args m h),
-              )
+          lower gate m h = omega (
+            arith,
+            lt,
+            well.acyclic.1 n m
+                (kind, args, contained c (Gate n kind args) gate, contained args m h),
+          )
 
   -- the bit of a name, following back as many gates as its number allows
   abbrev pub solution : Name → Bool
@@ -68,8 +62,7 @@ module _ (c : List Statement) (t : Test) (f : Option Fault) (well : IsWellFormed
 
   solved_source : (i : ℕ) (n : Name) → slice_get (sources c) i ≡ Some n
       → solution n ≡ under f (line.Stem (signal c n)) (slice_index_or t i false)
-  solved_source i n e =
-      ap (under f (line.Stem (signal c n)))
+  solved_source i n e = ap (under f (line.Stem (signal c n)))
       (go (definition c (signal c n)) (source_definition c n well (at_place (sources c) i n e)))
     where
       go : (o : Option Statement) → IsSource o
@@ -83,8 +76,7 @@ module _ (c : List Statement) (t : Test) (f : Option Fault) (well : IsWellFormed
   solved_gate : (n : Name) (kind : Kind) (args : List Name) → Contains c (Gate n kind args)
       → solution n
       ≡ under f (line.Stem (signal c n)) (value kind (pins_see f solution (signal c n) args))
-  solved_gate n kind args at =
-      ap (λ o. under f (line.Stem (signal c n))
+  solved_gate n kind args at = ap (λ o. under f (line.Stem (signal c n))
       (driven c t f (bit_within (well.acyclic.0 n) c t f) n o))
       (definition-signal c (Gate n kind args) n well at refl)
       ∙ ap (λ bits. under f (line.Stem (signal c n)) (value kind bits))
@@ -95,8 +87,7 @@ module _ (c : List Statement) (t : Test) (f : Option Fault) (well : IsWellFormed
           let lt : well.acyclic.0 m < well.acyclic.0 n =
           well.acyclic.1 n m (kind, args, at, contained args m h) in
           steady (suc (well.acyclic.0 m)) (well.acyclic.0 n) (suc (well.acyclic.0 m)) m
-          (omega arith) (omega (arith, lt)) (omega arith)
-          (among (names c) m
+          (omega arith) (omega (arith, lt)) (omega arith) (among (names c) m
           (read_named c (Gate n kind args) m well (among c (Gate n kind args) at) h))
 
   pub solution_solves : Solves c t f solution

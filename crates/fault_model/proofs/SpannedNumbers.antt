@@ -1,15 +1,13 @@
 -- Lists of all numbers below a bound: two with this many elements are permutations of each other,
 -- and an ascending list is determined by its elements.
 use Rattle.std.proofs.Common.{◌≡◌, ◌<◌, ℕ, zero, suc, refl, sym, ◌∙◌, ap, subst, Bool, true, false}
-use Rattle.std.proofs.Common.{List, [], ◌∷◌, ◌++◌, map, length, filter, arith, inl, inr}
-use Rattle.std.proofs.Common.{◌⊎◌}
+use Rattle.std.proofs.Common.{List, [], ◌∷◌, ◌++◌, map, length, filter, arith, inl, inr, ◌⊎◌}
 use Rattle.std.specs.Prelude.{IsPermutation, AllPairs, Option, Some, None, Contains, is_some}
-use Rattle.std.specs.List.{filter_map}
-use Rattle.std.proofs.lemmas.List.{map-append}
+use Rattle.std.{specs.List.filter_map, proofs.lemmas.List.map-append}
 use Rattle.std.proofs.lemmas.List.Sorted.{IsPermutation-refl, IsPermutation-trans}
 use Rattle.std.proofs.lemmas.List.Sorted.{IsPermutation-sym, IsPermutation-cons}
-use Rattle.std.proofs.lemmas.List.Sorted.{Contains-permutation}
-use Rattle.std.proofs.lemmas.List.Sorted.{IsPermutation-to_front, IsPermutation-middle}
+use Rattle.std.proofs.lemmas.List.Sorted.{Contains-permutation, IsPermutation-to_front}
+use Rattle.std.proofs.lemmas.List.Sorted.{IsPermutation-middle}
 use Rattle.list_lemmas.proofs.Members.{Among, among, contained, among_append, among_left}
 use Rattle.list_lemmas.proofs.Members.{among_right, among_filter, filtered_from, mapped_from}
 
@@ -56,8 +54,7 @@ below_within (suc n) s (inr a) =
 
 below_more : (n : ℕ) → below (suc n) ≡ below n ++ n ∷ []
 below_more zero = refl
-below_more (suc n) =
-    ap (λ xs. 0 ∷ map (λ k. suc k) xs) (below_more n)
+below_more (suc n) = ap (λ xs. 0 ∷ map (λ k. suc k) xs) (below_more n)
     ∙ ap (λ xs. 0 ∷ xs) (map-append (λ k. suc k) (below n) (n ∷ []))
 
 empty : (xs : List ℕ) → length xs ≡ 0 → [] ≡ xs
@@ -110,16 +107,14 @@ pub pairwise_filter : {X : Type 0} (R S : X → X → Type 0) (p : X → Bool) (
     → ((x y : X) → p x ≡ true → p y ≡ true → R x y → S x y) → Pairwise R xs
     → Pairwise S (filter p xs)
 pairwise_filter R S p [] step all = tt
-pairwise_filter {X} R S p (x ∷ xs) step all =
-    go (p x) refl (pairwise_filter R S p xs step all.1)
+pairwise_filter {X} R S p (x ∷ xs) step all = go (p x) refl (pairwise_filter R S p xs step all.1)
   where
     go : (b : Bool) → p x ≡ b → Pairwise S (filter p xs) → Pairwise S (filter p (x ∷ xs))
     go false e rest = rw e rest
-    go true e rest =
-        rw e (
-          (λ y a. let from = filtered_from p xs y a in step x y e from.1 (all.0 y from.0)),
-          rest,
-        )
+    go true e rest = rw e (
+      (λ y a. let from = filtered_from p xs y a in step x y e from.1 (all.0 y from.0)),
+      rest,
+    )
 
 abbrev pub Ascending : List ℕ → Type 0
 Ascending xs = Pairwise (λ s t. s < t) xs
@@ -193,8 +188,7 @@ kept_some : {Y : Type 0} (h : ℕ → Option Y) (xs : List ℕ)
 kept_some h [] = refl
 kept_some {Y} h (x ∷ xs) = go (h x) refl (kept_some h xs)
   where
-    go : (o : Option Y) → h x ≡ o
-        → filter_map h (filter (λ s. is_some (h s)) xs) ≡ filter_map h xs
+    go : (o : Option Y) → h x ≡ o → filter_map h (filter (λ s. is_some (h s)) xs) ≡ filter_map h xs
         → filter_map h (filter (λ s. is_some (h s)) (x ∷ xs)) ≡ filter_map h (x ∷ xs)
     go None e rest = rw e rest
     go (Some y) e rest = rw (e, e) (ap (λ ys. y ∷ ys) rest)
@@ -208,8 +202,7 @@ kept_same {Y} h n xs into from up =
     sym (kept_some h xs) ∙ (ap (filter_map h) lists ∙ kept_some h (below n))
   where
     lists : filter (λ s. is_some (h s)) xs ≡ filter (λ s. is_some (h s)) (below n)
-    lists =
-        same_ordered (λ s t. s < t) (λ s t lt more. omega (arith, lt, more))
+    lists = same_ordered (λ s t. s < t) (λ s t lt more. omega (arith, lt, more))
         (filter (λ s. is_some (h s)) xs) (filter (λ s. is_some (h s)) (below n)) up
         (pairwise_filter (λ s t. s < t) (λ s t. s < t) (λ s. is_some (h s)) (below n)
         (λ x y a b lt. lt) (below_ascending n))

@@ -1,34 +1,27 @@
 -- The statements in an order of signals in which sources ascend: the circuit in another order, in
 -- which each signal has its place in the order as its number. Level order is such an order, and a
 -- circuit has one level order.
-use Rattle.std.proofs.Common.{◌≡◌, ◌<◌, ℕ, zero, suc, refl, sym, ◌∙◌, ap, subst, Bool, true}
-use Rattle.std.proofs.Common.{false, List, [], ◌∷◌, ◌++◌, map, length, filter, get_or, arith, inl}
-use Rattle.std.proofs.Common.{inr, ◌⊎◌, append-nil}
-use Rattle.std.specs.Prelude.{IsPermutation, Option, Some, None, is_some, not}
-use Rattle.std.specs.Prelude.{slice_get, option_and_then, unwrap_or}
-use Rattle.std.specs.Option.{option_map_or}
-use Rattle.std.specs.List.{filter_map, cons_option}
-use Rattle.std.proofs.lemmas.Option.{slice_get-get_or}
-use Rattle.std.proofs.lemmas.List.Concat.{flat_map-append}
-use Rattle.std.proofs.lemmas.List.Elements.{filter_map-append}
-use Rattle.std.proofs.lemmas.List.Sorted.{IsPermutation-sym, IsPermutation-trans}
-use Rattle.std.proofs.lemmas.List.Sorted.{IsPermutation-map, IsPermutation-filter_both}
-use Rattle.std.proofs.lemmas.List.Sorted.{IsPermutation-append_right, Contains-permutation}
-use Rattle.bench_net.specs.declared.Kind.{Kind}
+use Rattle.std.proofs.Common.{◌≡◌, ◌<◌, ℕ, zero, suc, refl, sym, ◌∙◌, ap, subst, Bool, true, false}
+use Rattle.std.proofs.Common.{List, [], ◌∷◌, ◌++◌, map, length, filter, get_or, arith, inl, inr}
+use Rattle.std.{proofs.Common.{◌⊎◌, append-nil}, specs.Prelude.{option_and_then, unwrap_or}}
+use Rattle.std.specs.Prelude.{IsPermutation, Option, Some, None, is_some, not, slice_get}
+use Rattle.std.specs.{Option.option_map_or, List.{filter_map, cons_option}}
+use Rattle.std.proofs.lemmas.{Option.slice_get-get_or, List.Concat.flat_map-append}
+use Rattle.std.proofs.lemmas.List.{Elements.filter_map-append, Sorted.Contains-permutation}
+use Rattle.std.proofs.lemmas.List.Sorted.{IsPermutation-sym, IsPermutation-trans, IsPermutation-map}
+use Rattle.std.proofs.lemmas.List.Sorted.{IsPermutation-filter_both, IsPermutation-append_right}
+use Rattle.bench_net.specs.{declared.Kind.Kind, Scan.sources, Circuit.IsWellFormed}
 use Rattle.bench_net.specs.Statement.{Name, Statement, Input, Output, Gate, Dff, defined, defines}
 use Rattle.bench_net.specs.Scan.{names, name_of, signal, definition, inputs, outputs, cells}
-use Rattle.bench_net.specs.Scan.{sources}
-use Rattle.bench_net.specs.Circuit.{IsWellFormed}
 use Rattle.bench_net.specs.Level.{HasLevel, IsLevelOrder, GoesBefore}
+use Rattle.bench_net.proofs.Public.{definition_defines, signal-name_of}
 use Rattle.list_lemmas.proofs.Members.{Among, among, contained, among_left, among_right}
 use Rattle.list_lemmas.proofs.Places.{at_place, within_place}
-use Rattle.bench_net.proofs.Public.{definition_defines, signal-name_of}
-use Rattle.fault_model.specs.Reordered.{IsReordered, place, in_order, IsOrderedBy}
-use Rattle.fault_model.specs.Reordered.{IsSourceAt, IsSignalOrder}
-use Rattle.fault_model.proofs.SpannedNumbers.{Spans, below, below_within, spans_permuted}
-use Rattle.fault_model.proofs.SpannedNumbers.{Ascending, pairwise, pairwise_filter, kept_all}
-use Rattle.fault_model.proofs.SpannedNumbers.{kept_same, same_ordered, span_within}
-use Rattle.fault_model.proofs.NextFaultLevels.{one_level}
+use Rattle.fault_model.specs.Reordered.{IsReordered, place, in_order, IsOrderedBy, IsSourceAt}
+use Rattle.fault_model.{specs.Reordered.IsSignalOrder, proofs.NextFaultLevels.one_level}
+use Rattle.fault_model.proofs.SpannedNumbers.{Spans, below, below_within, spans_permuted, Ascending}
+use Rattle.fault_model.proofs.SpannedNumbers.{pairwise, pairwise_filter, kept_all, kept_same}
+use Rattle.fault_model.proofs.SpannedNumbers.{same_ordered, span_within}
 use Rattle.fault_model.proofs.ReorderedNames.{well_reordered}
 
 -- ---- lists of statements
@@ -41,11 +34,9 @@ defining_count (Gate n kind args ∷ c) = ap suc (defining_count c)
 defining_count (Dff q d ∷ c) = ap suc (defining_count c)
 
 -- the elements of a list at all its places are the list
-all_places : {X : Type 0} (xs : List X)
-    → filter_map (slice_get xs) (below (length xs)) ≡ xs
+all_places : {X : Type 0} (xs : List X) → filter_map (slice_get xs) (below (length xs)) ≡ xs
 all_places [] = refl
-all_places {X} (x ∷ xs) =
-    ap (λ ys. x ∷ ys) (shifted (below (length xs)) ∙ all_places xs)
+all_places {X} (x ∷ xs) = ap (λ ys. x ∷ ys) (shifted (below (length xs)) ∙ all_places xs)
   where
     shifted : (ks : List ℕ)
         → filter_map (slice_get (x ∷ xs)) (map (λ k. suc k) ks) ≡ filter_map (slice_get xs) ks
@@ -60,8 +51,7 @@ joined_partial {Y} {Z} g h (x ∷ xs) = go (h x) refl (joined_partial g h xs)
   where
     go : (o : Option Y) → h x ≡ o
         → filter_map g (filter_map h xs) ≡ filter_map (λ s. option_and_then g (h s)) xs
-        → filter_map g (filter_map h (x ∷ xs))
-        ≡ filter_map (λ s. option_and_then g (h s)) (x ∷ xs)
+        → filter_map g (filter_map h (x ∷ xs)) ≡ filter_map (λ s. option_and_then g (h s)) (x ∷ xs)
     go None e rest = rw e rest
     go (Some y) e rest = rw e (ap (cons_option (g y)) rest)
 
@@ -71,16 +61,13 @@ defining_give : {X : Type 0} (g : Statement → Option X) (c : List Statement)
     → ((n : Name) → g (Output n) ≡ None) → filter_map g (filter defines c) ≡ filter_map g c
 defining_give g [] none = refl
 defining_give g (Output n ∷ c) none = rw (none n) (defining_give g c none)
-defining_give g (Input n ∷ c) none =
-    ap (cons_option (g (Input n))) (defining_give g c none)
+defining_give g (Input n ∷ c) none = ap (cons_option (g (Input n))) (defining_give g c none)
 defining_give g (Gate n kind args ∷ c) none =
     ap (cons_option (g (Gate n kind args))) (defining_give g c none)
-defining_give g (Dff q d ∷ c) none =
-    ap (cons_option (g (Dff q d))) (defining_give g c none)
+defining_give g (Dff q d ∷ c) none = ap (cons_option (g (Dff q d))) (defining_give g c none)
 
 others_give : {X : Type 0} (g : Statement → Option X) (c : List Statement)
-    → ((n : Name) → g (Output n) ≡ None)
-    → filter_map g (filter (λ st. not (defines st)) c) ≡ []
+    → ((n : Name) → g (Output n) ≡ None) → filter_map g (filter (λ st. not (defines st)) c) ≡ []
 others_give g [] none = refl
 others_give g (Output n ∷ c) none = rw (none n) (others_give g c none)
 others_give g (Input n ∷ c) none = others_give g c none
@@ -256,8 +243,7 @@ module _ (c : List Statement) (order : List ℕ) (is : IsSignalOrder c order) wh
     same_given =
         filter_map-append g (filter (λ st. not (defines st)) c) (filter_map (definition c) order)
         ∙ (ap (λ xs. xs ++ filter_map g (filter_map (definition c) order))
-        (others_give g c no_output)
-        ∙ (joined_partial g (definition c) order
+        (others_give g c no_output) ∙ (joined_partial g (definition c) order
         ∙ (kept_same given (length defining) order into_below from_below ascending
         ∙ (sym (joined_partial g (definition c) (below (length defining)))
         ∙ (ap (filter_map g) (all_places defining) ∙ defining_give g c no_output)))))
@@ -281,13 +267,11 @@ module _ (c : List Statement) (order : List ℕ) (is : IsSignalOrder c order) wh
           cc
 
   same_outputs : outputs (in_order c order) ≡ outputs c
-  same_outputs =
-      outputs_are (in_order c order)
+  same_outputs = outputs_are (in_order c order)
       ∙ (filter_map-append output_name (filter (λ st. not (defines st)) c)
       (filter_map (definition c) order)
       ∙ (ap (λ xs. filter_map output_name (filter (λ st. not (defines st)) c) ++ xs)
-      (no_outputs order)
-      ∙ (append-nil (filter_map output_name (filter (λ st. not (defines st)) c))
+      (no_outputs order) ∙ (append-nil (filter_map output_name (filter (λ st. not (defines st)) c))
       ∙ (outputs_kept c ∙ sym (outputs_are c)))))
 
   reordered : IsReordered c (in_order c order)
@@ -303,15 +287,12 @@ module _ (c : List Statement) (order : List ℕ) (is : IsSignalOrder c order) wh
   -- ---- places
 
   named_at : (xs : List ℕ) → ((s : ℕ) → Among s xs → s < length defining) → (i s : ℕ)
-      → slice_get xs i ≡ Some s
-      → slice_get (names (filter_map (definition c) xs)) i ≡ name_of c s
+      → slice_get xs i ≡ Some s → slice_get (names (filter_map (definition c) xs)) i ≡ name_of c s
   named_at [] lt i s e = let bad : None ≡ Some s = e in cc
-  named_at (x ∷ xs) lt i s e =
-      go i e (named_at xs (λ t a. lt t (inr a)))
+  named_at (x ∷ xs) lt i s e = go i e (named_at xs (λ t a. lt t (inr a)))
       (within_place defining x (lt x (inl refl)))
     where
-      go : (j : ℕ) → slice_get (x ∷ xs) j ≡ Some s
-          → ((k t : ℕ) → slice_get xs k ≡ Some t
+      go : (j : ℕ) → slice_get (x ∷ xs) j ≡ Some s → ((k t : ℕ) → slice_get xs k ≡ Some t
           → slice_get (names (filter_map (definition c) xs)) k ≡ name_of c t)
           → (st : Statement) × (definition c x ≡ Some st)
           → slice_get (names (filter_map (definition c) (x ∷ xs))) j ≡ name_of c s
@@ -323,8 +304,7 @@ module _ (c : List Statement) (order : List ℕ) (is : IsSignalOrder c order) wh
           let by = definition_defines c x p.0 p.1 in
           rw (p.1, by.1) (rest j s at)
 
-  same_name_at : (i s : ℕ) → slice_get order i ≡ Some s
-      → name_of (in_order c order) i ≡ name_of c s
+  same_name_at : (i s : ℕ) → slice_get order i ≡ Some s → name_of (in_order c order) i ≡ name_of c s
   same_name_at i s e =
       ap (λ ns. slice_get ns i) (flat_map-append defined (filter (λ st. not (defines st)) c)
       (filter_map (definition c) order)
@@ -380,8 +360,7 @@ module _ (c : List Statement) (well : IsWellFormed c) where
   one_level_of : (s j k : ℕ) → HasLevel c s j → HasLevel c s k → j ≡ k
   one_level_of s j k p q =
       let same : q.1 ≡ p.1 = ap (λ o. unwrap_or o p.1) (sym q.3 ∙ p.3) in
-      sym p.4
-      ∙ (one_level c well p.0 q.0 p.2 q.2 p.1 (at_place (names c) s p.1 p.3)
+      sym p.4 ∙ (one_level c well p.0 q.0 p.2 q.2 p.1 (at_place (names c) s p.1 p.3)
       ∙ (ap q.0 (sym same) ∙ q.4))
 
   one_way : (s t : ℕ) → GoesBefore c s t → GoesBefore c t s → ⊥

@@ -2,24 +2,16 @@
 use Rattle.std.proofs.Common.{◌≡◌, ◌<◌, ◌≤◌, ℕ, zero, suc, ◌+◌, refl, sym, ◌∙◌, ap, subst, Bool}
 use Rattle.std.proofs.Common.{true, false, List, length, arith, inl, inr, ◌⊎◌}
 use Rattle.std.specs.Prelude.{Some, slice_get}
-use Rattle.bench_net.specs.Statement.{Statement}
-use Rattle.bench_net.specs.Scan.{names, signal}
-use Rattle.bench_net.specs.Circuit.{IsWellFormed}
-use Rattle.bench_net.specs.Level.{IsLevelOrder}
-use Rattle.list_lemmas.proofs.Members.{among, contained}
-use Rattle.bench_net.proofs.Public.{name_of-signal}
-use Rattle.list_lemmas.proofs.Places.{at_place, placed, place_within}
+use Rattle.bench_net.specs.{Statement.Statement, Scan.{names, signal}, Circuit.IsWellFormed}
+use Rattle.bench_net.{specs.Level.IsLevelOrder, proofs.Public.name_of-signal}
+use Rattle.list_lemmas.proofs.{Members.{among, contained}, Places.{at_place, placed, place_within}}
 use Rattle.fault_model.specs.declared.Line.TheVariants as line
-use Rattle.fault_model.specs.declared.Model.{Model}
-use Rattle.fault_model.specs.Fault.{Fault, faults}
+use Rattle.fault_model.specs.{declared.Model.Model, Fault.{Fault, faults}}
 use Rattle.fault_model.specs.Known.{HasClassAt, HasEnds, HasNext, HasStems, KeepsClasses}
 use Rattle.fault_model.proofs.ListedFaults.{IsReadBy, fault_on, listed_model, Step, step_of}
-use Rattle.fault_model.proofs.ListedFaults.{next_on_stem}
-use Rattle.fault_model.proofs.NextFaultChains.{gate_defined}
-use Rattle.fault_model.proofs.FrontParts.{below_or_at}
-use Rattle.fault_model.proofs.FaultLines.{one_fault_place}
-use Rattle.fault_model.proofs.NextFault.{listed_in_circuit}
-use Rattle.fault_model.proofs.NextFaultLevels.{later}
+use Rattle.fault_model.proofs.{ListedFaults.next_on_stem, NextFaultChains.gate_defined}
+use Rattle.fault_model.proofs.{FrontParts.below_or_at, FaultLines.one_fault_place}
+use Rattle.fault_model.proofs.{NextFault.listed_in_circuit, NextFaultLevels.later}
 use Rattle.fault_model.proofs.FollowedClasses.{ends_kept}
 
 -- the table has the classes of the stems of the signals from a place of the order on
@@ -66,25 +58,19 @@ stem_next m c order place before after s i b well is from at there j f g here e 
             (place_within (names c) (signal c st.name) st.name named))) in
             let after_it : place < q.0 =
             later c f g order place q.0 well is st (at ∙ ap Some number) q.1 in
-            from.stems q.0 (signal c st.name) j st.bit (omega (arith, after_it)) q.1
-            (target
+            from.stems q.0 (signal c st.name) j st.bit (omega (arith, after_it)) q.1 (target
             ∙ ap Some
             (sym st.gives ∙ ap (λ x. fault_on x (line.Stem (signal c st.name)) st.bit) of))
 
 -- with both faults of that stem the table has one signal more
 pub stems_more : (m : Model) (c : List Statement) (order : List ℕ) (place : ℕ)
     (before after : List ℕ) (s i j : ℕ) → IsWellFormed c
-    → StemsFrom m c order (place + 1) before after
-    → slice_get order place ≡ Some s
+    → StemsFrom m c order (place + 1) before after → slice_get order place ≡ Some s
     → slice_get (faults m c) i ≡ Some (fault_on m (line.Stem s) false)
     → slice_get (faults m c) j ≡ Some (fault_on m (line.Stem s) true)
     → HasClassAt m c after i → HasClassAt m c after j → StemsFrom m c order place before after
 stems_more m c order place before after s i j well from at zero_at one_at zero_known one_known =
-    record {
-      ends = from.ends;
-      stems = stems;
-      kept = from.kept;
-    }
+    record { ends = from.ends; stems = stems; kept = from.kept }
   where
     own : (s' k : ℕ) (b : Bool) → s ≡ s'
         → slice_get (faults m c) k ≡ Some (fault_on m (line.Stem s') b) → HasClassAt m c after k

@@ -3,10 +3,8 @@ use Rattle.std.proofs.Common.{◌≡◌, ◌<◌, ◌+◌, ◌*◌, ◌-◌, ◌
 use Rattle.std.specs.Prelude.{count_ones}
 use Rattle.fault_model.specs.Detection.{DetectsAt}
 use Rattle.flat_circuit.specs.Words.{lane}
-use Rattle.block_sim.specs.First.{AreDetecting}
-use Rattle.block_sim.specs.Parts.{Parts}
-use Rattle.n_detect.specs.ListLanes.{AreGroupLanes}
-use Rattle.n_detect.proofs.Public.{ones_lanes}
+use Rattle.block_sim.specs.{First.AreDetecting, Parts.Parts}
+use Rattle.n_detect.{specs.ListLanes.AreGroupLanes, proofs.Public.ones_lanes}
 use Rattle.faultsim_c.specs.Lanes.{IsBlockCount}
 
 module _ (parts : Parts) (block class : ℕ) where

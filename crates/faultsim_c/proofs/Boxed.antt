@@ -1,8 +1,7 @@
 -- The box of a handle's contents, and the rows of a holder of its pointer.
 use mathlib.Core.List.{[]}
 use mir.Syntax.{impl, tnil, dnil}
-use denote.Signature.{Slot, plain}
-use denote.Struct.Owning.{Owning, row}
+use denote.{Signature.{Slot, plain}, Struct.Owning.{Owning, row}}
 use Rattle.std.proofs.alloc.Calls.{Al}
 use Rattle.std_heap.specs.contracts.Global as heap
 use Rattle.std_heap.specs.contracts.GlobalAllocator.TheImpl.{ghosts, dict}

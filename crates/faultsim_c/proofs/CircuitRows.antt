@@ -1,10 +1,8 @@
 -- Rows of numbers one after another, and how many pins the gates of a circuit have.
-use Rattle.std.proofs.Common.{◌≡◌, ◌≤◌, ◌+◌, ◌-◌, ℕ, zero, suc, List, [], ◌∷◌, ◌++◌, length}
-use Rattle.std.proofs.Common.{◌∙◌, ap, arith, filter, length-append, map, refl}
+use Rattle.std.proofs.Common.{◌≡◌, ◌≤◌, ◌+◌, ◌-◌, ℕ, zero, suc, List, [], ◌∷◌, ◌++◌, length, ◌∙◌}
+use Rattle.std.proofs.{Common.{ap, arith, filter, length-append, map, refl}, lemmas.List.length-map}
 use Rattle.std.specs.Prelude.{Some, flat_map, slice_get}
-use Rattle.std.proofs.lemmas.List.{length-map}
-use Rattle.bench_net.specs.Circuit.{IsCircuit, max_sinks}
-use Rattle.bench_net.specs.Scan.{gate_line, signal}
+use Rattle.bench_net.specs.{Circuit.{IsCircuit, max_sinks}, Scan.{gate_line, signal}}
 use Rattle.bench_net.specs.Statement.{Statement, Input, Output, Gate, Dff, defines, read}
 use Rattle.faultsim_c.specs.Circuits.{fan_in, pins_read, rows_before}
 

@@ -1,31 +1,22 @@
 -- The pins that read a signal: they are among the sinks of its name, and those of all signals are
 -- as many as the pins of all gates.
 use Rattle.std.proofs.Common.{◌≡◌, ◌<◌, ◌≤◌, ◌+◌, ◌∙◌, ◌==◌, ℕ, zero, suc, List, [], ◌∷◌, ◌++◌}
-use Rattle.std.proofs.Common.{true, false, cond, length, map, filter, get_or, refl, sym, ap}
-use Rattle.std.proofs.Common.{subst, arith, inl, inr, ◌⊎◌, append_assoc, length-append}
-use Rattle.std.proofs.Common.{set, take}
+use Rattle.std.proofs.Common.{true, false, cond, length, map, filter, get_or, refl, sym, ap, subst}
+use Rattle.std.proofs.Common.{arith, inl, inr, ◌⊎◌, append_assoc, length-append, set, take}
 use Rattle.std.specs.Prelude.{Option, None, Some, bytes_eq, flat_map, slice_get}
-use Rattle.std.specs.List.{enumerate_from}
-use Rattle.std.proofs.lemmas.Bool.{cases_Bool, cases_lt, eq-eqb, eqb-true}
-use Rattle.std.proofs.lemmas.Bool.Decides.{nat_tests}
-use Rattle.std.proofs.lemmas.Grind.{flat_map-append}
-use Rattle.std.proofs.lemmas.List.{append-nil, take_more, take_more_set}
-use Rattle.std.proofs.lemmas.List.Folds.{length-flat_map-take}
-use Rattle.bench_net.specs.declared.Kind.{Kind}
-use Rattle.bench_net.specs.declared.Sink.{Sink}
-use Rattle.bench_net.specs.declared.Sink.TheVariants.{Pin, Data, Out}
-use Rattle.bench_net.specs.Circuit.{IsWellFormed}
+use Rattle.std.{specs.List.enumerate_from, proofs.lemmas.Bool.Decides.nat_tests}
+use Rattle.std.proofs.lemmas.{Bool.{cases_Bool, cases_lt, eq-eqb, eqb-true}, Grind.flat_map-append}
+use Rattle.std.proofs.lemmas.List.{append-nil, take_more, take_more_set, Folds.length-flat_map-take}
+use Rattle.bench_net.specs.declared.{Kind.Kind, Sink.Sink, Sink.TheVariants.{Pin, Data, Out}}
+use Rattle.bench_net.specs.{Circuit.IsWellFormed, Scan.{places, signal, sinks}}
 use Rattle.bench_net.specs.Scan.{definition, gate_line, gate_of, name_of, names, outputs, pins_of}
-use Rattle.bench_net.specs.Scan.{places, signal, sinks}
 use Rattle.bench_net.specs.Statement.{Name, Statement, Input, Output, Gate, Dff, defines, read}
-use Rattle.list_lemmas.proofs.Members.{Among, contained}
-use Rattle.list_lemmas.proofs.Places.{at_place}
 use Rattle.bench_net.proofs.Public.{bytes_refl, definition_defines, name_of-signal, read_named}
 use Rattle.bench_net.proofs.Public.{same_bytes, signal-name_of}
+use Rattle.list_lemmas.proofs.{Members.{Among, contained}, Places.at_place}
 use Rattle.flat_circuit.proofs.Public.{pins_within}
 use Rattle.faultsim_c.specs.Circuits.{all_pins, fan_in, fan_out, pins_read, pins_reading}
-use Rattle.faultsim_c.specs.Circuits.{rows_before}
-use Rattle.faultsim_c.specs.declared.circuit.FsPin.{FsPin}
+use Rattle.faultsim_c.specs.{Circuits.rows_before, declared.circuit.FsPin.FsPin}
 
 -- ---- the pins among sinks
 
@@ -58,8 +49,7 @@ AreAlike c n s args = (a : Name) → Among a args → bytes_eq n a ≡ (signal c
 alike_places : (c : List Statement) (n : Name) (s g from : ℕ) (args : List Name)
     → AreAlike c n s args
     → map (pin g) (map (λ at. at.0) (filter (λ at. bytes_eq n at.1) (enumerate_from from args)))
-    ≡ map (λ at. pin g at.0)
-    (filter (λ at. at.1 == s) (enumerate_from from (map (signal c) args)))
+    ≡ map (λ at. pin g at.0) (filter (λ at. at.1 == s) (enumerate_from from (map (signal c) args)))
 alike_places c n s g from [] alike = refl
 alike_places c n s g from (a ∷ args) alike =
     let rest = alike_places c n s g (from + 1) args (λ b h. alike b (inr h)) in
@@ -98,8 +88,7 @@ statements_pins c (x ∷ xs) n s alike =
     ∙ (ap (λ l. l ++ pins_among (flat_map (pins_of c n) xs)) own
     ∙ (ap (λ l. reading_of c s x ++ l) rest ∙ kept x))
   where
-    kept : (x : Statement)
-        → reading_of c s x ++ flat_map (reading_of c s) (filter defines xs)
+    kept : (x : Statement) → reading_of c s x ++ flat_map (reading_of c s) (filter defines xs)
         ≡ flat_map (reading_of c s) (filter defines (x ∷ xs))
     kept (Input m) = refl
     kept (Output m) = refl
@@ -112,8 +101,7 @@ statements_pins c (x ∷ xs) n s alike =
 rows_first : {X : Type 0} (row : ℕ → List X) (k : ℕ)
     → rows_before row (suc k) ≡ row 0 ++ rows_before (λ i. row (suc i)) k
 rows_first row zero = sym (append-nil (row 0))
-rows_first row (suc k) =
-    ap (λ l. l ++ row (suc k)) (rows_first row k)
+rows_first row (suc k) = ap (λ l. l ++ row (suc k)) (rows_first row k)
     ∙ append_assoc (row 0) (rows_before (λ i. row (suc i)) k) (row (suc k))
 
 -- rows that are the same one by one
@@ -132,8 +120,7 @@ at_some f (Some x) = f x
 joined_rows : {X Y : Type 0} (f : X → List Y) (xs : List X)
     → flat_map f xs ≡ rows_before (λ i. at_some f (slice_get xs i)) (length xs)
 joined_rows f [] = refl
-joined_rows f (x ∷ xs) =
-    ap (λ l. f x ++ l) (joined_rows f xs)
+joined_rows f (x ∷ xs) = ap (λ l. f x ++ l) (joined_rows f xs)
     ∙ sym (rows_first (λ i. at_some f (slice_get (x ∷ xs) i)) (length xs))
 
 definition_count : (c : List Statement) → length (filter defines c) ≡ length (names c)
@@ -192,10 +179,8 @@ module _ (c : List Statement) (well : IsWellFormed c) where
         let pins = flat_map (pins_of c n) c in
         let outs = places n (outputs c) in
         flat_map-append own_pin pins (map Out outs)
-        ∙ (ap (λ l. pins_among pins ++ l) (outputs_none outs)
-        ∙ (append-nil (pins_among pins)
-        ∙ (statements_pins c c n s alike
-        ∙ (joined_rows (reading_of c s) (filter defines c)
+        ∙ (ap (λ l. pins_among pins ++ l) (outputs_none outs) ∙ (append-nil (pins_among pins)
+        ∙ (statements_pins c c n s alike ∙ (joined_rows (reading_of c s) (filter defines c)
         ∙ (ap (rows_before (λ i. at_some (reading_of c s) (definition c i))) (definition_count c)
         ∙ rows_same (λ i. at_some (reading_of c s) (definition c i))
         (λ i. pins_reading s i (fan_in c i)) (length (names c)) (λ i lt. row_of_number s i))))))
@@ -282,8 +267,7 @@ each_once n g from (x ∷ xs) below =
     let more = sums_same (λ s. length (pins_from s g from (x ∷ xs)))
     (λ s. cond (x == s) 1 0 + length (pins_from s g (from + 1) xs)) n
     (λ s lt. one_more s g from x xs) in
-    let both = sums_added (λ s. cond (x == s) 1 0)
-    (λ s. length (pins_from s g (from + 1) xs)) n in
+    let both = sums_added (λ s. cond (x == s) 1 0) (λ s. length (pins_from s g (from + 1) xs)) n in
     let own = one_below x n (below x (inl refl)) in
     let rest = each_once n g (from + 1) xs (λ y a. below y (inr a)) in
     omega (arith, more, both, own, rest)
@@ -305,8 +289,7 @@ pub fan_outs_count : (c : List Statement) → IsWellFormed c
     → length (rows_before (fan_out c) (length (names c))) ≡ length (all_pins c)
 fan_outs_count c well =
     let n = length (names c) in
-    rows_length (fan_out c) n
-    ∙ (sums_same (λ s. length (fan_out c s))
+    rows_length (fan_out c) n ∙ (sums_same (λ s. length (fan_out c s))
     (λ s. sum_to (λ g. length (pins_reading s g (fan_in c g))) n) n
     (λ s lt. rows_length (λ g. pins_reading s g (fan_in c g)) n)
     ∙ (sums_turned (λ s g. length (pins_reading s g (fan_in c g))) n n
@@ -320,8 +303,7 @@ fan_outs_count c well =
 -- the pins among the sinks up to one, and one more
 pins_more : (ks : List Sink) (i : ℕ) (k d : Sink) → i < length ks → get_or ks i d ≡ k
     → pins_among (take (i + 1) ks) ≡ pins_among (take i ks) ++ own_pin k
-pins_more ks i k d lt at =
-    ap (λ l. pins_among l) (take_more ks i d lt)
+pins_more ks i k d lt at = ap (λ l. pins_among l) (take_more ks i d lt)
     ∙ (flat_map-append own_pin (take i ks) (get_or ks i d ∷ [])
     ∙ (ap (λ l. pins_among (take i ks) ++ l) (append-nil (own_pin (get_or ks i d)))
     ∙ ap (λ x. pins_among (take i ks) ++ own_pin x) at))
@@ -357,8 +339,7 @@ pub pin_put : (old pins : List FsPin) (ks : List Sink) (i g p place next : ℕ) 
     → i < length ks → get_or ks i d ≡ Pin g p → next < length pins
     → take next pins ≡ take place old ++ pins_among (take i ks)
     → take (next + 1) (set pins next (pin g p)) ≡ take place old ++ pins_among (take (i + 1) ks)
-pin_put old pins ks i g p place next d lt at room rows =
-    take_more_set pins next (pin g p) room
+pin_put old pins ks i g p place next d lt at room rows = take_more_set pins next (pin g p) room
     ∙ (ap (λ l. l ++ pin g p ∷ []) rows
     ∙ (append_assoc (take place old) (pins_among (take i ks)) (pin g p ∷ [])
     ∙ ap (λ l. take place old ++ l) (sym (pins_more ks i (Pin g p) d lt at))))

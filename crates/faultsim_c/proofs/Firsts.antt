@@ -1,14 +1,12 @@
 -- First tests, by their numbers.
-use Rattle.std.proofs.Common.{◌≡◌, ◌≢◌, ◌<◌, ◌≤◌, ◌⊎◌, inl, inr, ℕ, List, length, get_or}
-use Rattle.std.proofs.Common.{Option, Some, None, sym, ap, ◌∙◌, subst, arith}
+use Rattle.std.proofs.Common.{◌≡◌, ◌≢◌, ◌<◌, ◌≤◌, ◌⊎◌, inl, inr, ℕ, List, length, get_or, Option}
+use Rattle.std.proofs.Common.{Some, None, sym, ap, ◌∙◌, subst, arith}
 use Rattle.std.specs.Prelude.{if◌then◌else◌, nat_eq, true, false}
 use Rattle.std.proofs.lemmas.Bool.Decides.{eqb_tells}
 use Rattle.std.proofs.lemmas.Option.{get_or_from_slice_get, slice_get-get_or, slice_get_within}
 use Rattle.bench_net.specs.Statement.{Statement}
-use Rattle.fault_model.specs.Fault.{Fault, faults}
-use Rattle.fault_model.specs.Solution.{Test}
-use Rattle.block_sim.specs.First.{IsFirst}
-use Rattle.block_sim.specs.Parts.{BelongTogether, Parts}
+use Rattle.fault_model.specs.{Fault.{Fault, faults}, Solution.Test}
+use Rattle.block_sim.specs.{First.IsFirst, Parts.{BelongTogether, Parts}}
 use Rattle.workers.specs.Verdict as verdict
 use Rattle.faultsim_c.specs.Calls.{AreFaultFirsts, AreFirsts, AreFirstNumbers, first_of}
 use Rattle.faultsim_c.specs.Calls.{first_number}
@@ -50,8 +48,7 @@ classes_told parts classes found firsts b are told = record {
 }
 
 -- the first tests of all faults
-pub faults_told : (parts : Parts) (found : List (Option ℕ)) (firsts : List ℕ)
-    → BelongTogether parts
+pub faults_told : (parts : Parts) (found : List (Option ℕ)) (firsts : List ℕ) → BelongTogether parts
     → verdict.AreFirsts parts.list.model parts.circuit parts.tests.tests found
     → AreFirstNumbers found firsts → AreFaultFirsts parts firsts
 faults_told parts found firsts b are told i f at =

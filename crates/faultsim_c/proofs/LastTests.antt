@@ -1,7 +1,6 @@
 -- The last test of a list, by itself.
 use Rattle.std.proofs.Common.{◌≡◌, ◌∙◌, ◌<◌, ◌+◌, ◌-◌, ◌∷◌, [], List, ap, arith, get_or, length}
-use Rattle.std.specs.Prelude.{Bool}
-use Rattle.std.proofs.lemmas.List.{drop_all, drop_more}
+use Rattle.std.{specs.Prelude.Bool, proofs.lemmas.List.{drop_all, drop_more}}
 use Rattle.faultsim_c.specs.Following.{last_of}
 
 -- there is none in an empty list

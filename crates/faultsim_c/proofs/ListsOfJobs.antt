@@ -1,6 +1,5 @@
 -- A simulation of lists of classes of a job serves the job with other tests.
-use Rattle.std.proofs.Common.{◌≡◌, subst, sym}
-use Rattle.std.specs.Prelude.{Result, Ok, Err, IfErr, IfOk}
+use Rattle.std.{proofs.Common.{◌≡◌, subst, sym}, specs.Prelude.{Result, Ok, Err, IfErr, IfOk}}
 use Rattle.patterns.specs.Tests.{TestList}
 use Rattle.block_sim.specs.Parts.{HasRoom, Parts, Room, with_tests}
 use Rattle.class_lists.specs.Lists.{ListsSimulated, ServesClasses}
@@ -8,10 +7,7 @@ use Rattle.class_lists.specs.Lists.{ListsSimulated, ServesClasses}
 pub serves_with_tests : (lists : ListsSimulated) (job : Parts) (tests : TestList)
     → ServesClasses lists job → ServesClasses lists (with_tests job tests)
 serves_with_tests lists job tests s = record {
-  room = record {
-    room = s.room.room;
-    followed = s.room.followed;
-  };
+  room = record { room = s.room.room; followed = s.room.followed };
   count = s.count;
   below = s.below;
 }

@@ -1,21 +1,17 @@
 -- The last test of a list and new ones after it, from the words of the new ones.
 use Rattle.std.proofs.Common.{◌≡◌, ◌<◌, ◌≤◌, ◌+◌, ◌-◌, ◌*◌, ◌/◌, ◌%◌, ◌^◌, ◌==◌, ◌∙◌, ◌⊎◌, inl, inr}
 use Rattle.std.proofs.Common.{ℕ, zero, suc, Bool, false, true, List, [], ◌∷◌, ◌++◌, All, ap, arith}
-use Rattle.std.proofs.Common.{get_or, length, length-append, refl, subst, sym}
-use Rattle.std.specs.Int.{bit_at}
-use Rattle.std.proofs.Math.Nat.{mod-lt, mul-le-mul_left}
-use Rattle.std.proofs.lemmas.Bool.{cases_lt}
+use Rattle.std.{proofs.Common.{get_or, length, length-append, refl, subst, sym}, specs.Int.bit_at}
+use Rattle.std.proofs.{Math.Nat.{mod-lt, mul-le-mul_left}, lemmas.Bool.cases_lt}
 use Rattle.std.proofs.lemmas.List.{get_or_append_left, get_or_default, get_or_past, same_lists}
-use Rattle.std.proofs.lemmas.List.Elements.{All-cons, All-push}
+use Rattle.std.proofs.lemmas.{List.Elements.{All-cons, All-push}, Nat.Bits.same_from_bits_below}
 use Rattle.std.proofs.lemmas.Nat.{div-add-mod', pow_pos, same_from_place}
-use Rattle.std.proofs.lemmas.Nat.Bits.{bit_at-suc, bit_at_above, bit_at_cat_low}
-use Rattle.std.proofs.lemmas.Nat.Bits.{bit_at_lowest, same_from_bits_below}
+use Rattle.std.proofs.lemmas.Nat.Bits.{bit_at-suc, bit_at_above, bit_at_cat_low, bit_at_lowest}
 use Rattle.patterns.specs.Making.{IsMadeOf, IsWordsRefusal, word_of}
 use Rattle.patterns.specs.Tests.{IsTestList, IsWord, TestList, as_number, bit, blocks, size_of}
 use Rattle.patterns.specs.declared.WordsFault.{WordsFault}
 use Rattle.patterns.specs.declared.WordsFault.TheVariants as words_fault
-use Rattle.faultsim_c.specs.Following.{AreFirstWords, after_last}
-use Rattle.faultsim_c.proofs.LastTests.{last_some}
+use Rattle.faultsim_c.{specs.Following.{AreFirstWords, after_last}, proofs.LastTests.last_some}
 use mir.Val.{bool_byte}
 
 -- ---- bits of tests
@@ -35,8 +31,7 @@ same_bit : (a b : Bool) → as_number a ≡ as_number b → a ≡ b
 same_bit a b e = sym (number_one a) ∙ (ap (λ n. n == 1) e ∙ number_one b)
 
 -- past the last test there is none
-bit_past : (tests : List (List Bool)) (t source : ℕ) → length tests ≤ t
-    → bit tests t source ≡ false
+bit_past : (tests : List (List Bool)) (t source : ℕ) → length tests ≤ t → bit tests t source ≡ false
 bit_past tests t source le = ap (λ row. get_or row source false) (get_or_past tests t [] le)
 
 -- ---- the last test and the new ones
@@ -54,8 +49,7 @@ module _ (old new : List (List Bool)) (some : 0 < length old) where
   pub all_wide : (width : ℕ) → All (λ test. length test ≡ width) old
       → All (λ test. length test ≡ width) new
       → All (λ test. length test ≡ width) (after_last old new)
-  all_wide width own others =
-      subst (All (λ test. length test ≡ width)) (sym joined)
+  all_wide width own others = subst (All (λ test. length test ≡ width)) (sym joined)
       (All-cons (λ test. length test ≡ width) last new
       (own (length old - 1) [] (omega (arith, some))) others)
 
@@ -101,8 +95,7 @@ words_more tests width words block source word count within few is was = record 
     go : (b s : ℕ) → s < width → width * b + s < length (words ++ word ∷ [])
         → (width * b + s < length words) ⊎ (length words ≤ width * b + s)
         → IsWord tests b s (word_of width (words ++ word ∷ []) b s)
-    go b s lt low (inl old) =
-        subst (IsWord tests b s)
+    go b s lt low (inl old) = subst (IsWord tests b s)
         (sym (get_or_append_left words (word ∷ []) 0 (width * b + s) old)) (was.each b s lt old)
     go b s lt low (inr end) =
         let long = length-append words (word ∷ []) in
@@ -114,8 +107,7 @@ words_more tests width words block source word count within few is was = record 
         let both = same_from_place b s block source width lt within turned in
         let value : get_or (words ++ word ∷ []) (width * b + s) 0 ≡ word =
         ap (λ n. get_or (words ++ word ∷ []) n 0) here ∙ last_one words word in
-        subst (IsWord tests b s) (sym value)
-        (subst (λ n. IsWord tests n s word) (sym both.0)
+        subst (IsWord tests b s) (sym value) (subst (λ n. IsWord tests n s word) (sym both.0)
         (subst (λ n. IsWord tests block n word) (sym both.1) is))
       where
         last_one : (xs : List ℕ) (x : ℕ) → get_or (xs ++ x ∷ []) (length xs) 0 ≡ x
@@ -169,8 +161,7 @@ module _ (tests : List (List Bool)) (width : ℕ) (words : List ℕ)
     -- tests that are made of them are these tests
     pub same_tests : (made : TestList) → IsMadeOf width (length tests) words made → IsTestList made
         → All (λ test. length test ≡ width) tests → made.tests ≡ tests
-    same_tests made is list each =
-        same_lists made.tests tests is.same_count (λ t d lt.
+    same_tests made is list each = same_lists made.tests tests is.same_count (λ t d lt.
         let own = get_or made.tests t d in
         let here : t < length tests = (let count = is.same_count in omega (arith, lt, count)) in
         let one = list.each t d lt ∙ is.same_width in
@@ -185,12 +176,10 @@ module _ (tests : List (List Bool)) (width : ℕ) (words : List ℕ)
         let at : 64 * block + k ≡ t = omega arith in
         let a = is.each block s in_block inside k lane in
         let b = are.each block s inside (within block s in_block inside) k lane in
-        let bits : bit made.tests t s ≡ bit tests t s =
-        ap (λ n. bit made.tests n s) (sym at)
+        let bits : bit made.tests t s ≡ bit tests t s = ap (λ n. bit made.tests n s) (sym at)
         ∙ (same_bit (bit made.tests (64 * block + k) s) (bit tests (64 * block + k) s) (sym a ∙ b)
         ∙ ap (λ n. bit tests n s) at) in
         get_or_default own s e false low
         ∙ (ap (λ (row : List Bool). get_or row s false) (get_or_default made.tests t d [] lt)
-        ∙ (bits
-        ∙ (ap (λ (row : List Bool). get_or row s false) (get_or_default tests t [] d here)
+        ∙ (bits ∙ (ap (λ (row : List Bool). get_or row s false) (get_or_default tests t [] d here)
         ∙ get_or_default (get_or tests t d) s false e inside_other)))))

@@ -1,22 +1,18 @@
 -- The signals that are observed.
-use Rattle.std.proofs.Common.{◌≡◌, ◌<◌, ◌≤◌, ◌+◌, ◌-◌, ◌∙◌, ℕ, List, [], ◌∷◌, ◌++◌, length, map}
-use Rattle.std.proofs.Common.{ap, refl, sym, subst, arith, inl, inr, ◌⊎◌, get_or}
+use Rattle.std.proofs.Common.{◌≡◌, ◌<◌, ◌≤◌, ◌+◌, ◌-◌, ◌∙◌, ℕ, List, [], ◌∷◌, ◌++◌, length, map, ap}
+use Rattle.std.proofs.Common.{refl, sym, subst, arith, inl, inr, ◌⊎◌, get_or}
 use Rattle.std.specs.Prelude.{Contains, Some, flat_map, option_map, slice_get}
-use Rattle.std.specs.List.{enumerate_from}
+use Rattle.std.{specs.List.enumerate_from, proofs.lemmas.List.get_or-append_right}
 use Rattle.std.proofs.lemmas.List.{length-append, length-map, map-append, get_or_append_left}
-use Rattle.std.proofs.lemmas.List.{get_or-append_right}
 use Rattle.std.proofs.lemmas.Option.{get_or_from_slice_get, slice_get-map}
 use Rattle.std.proofs.lemmas.List.Elements.{Contains-get_or}
-use Rattle.bench_net.specs.declared.ScanCell.{ScanCell}
-use Rattle.bench_net.specs.declared.Sink.{Sink}
-use Rattle.bench_net.specs.declared.Sink.TheVariants as sink
+use Rattle.bench_net.specs.{declared.ScanCell.ScanCell, declared.Sink.Sink, Circuit.IsWellFormed}
 use Rattle.bench_net.specs.Statement.{Name, Statement, Input, Output, Gate, Dff, read}
 use Rattle.bench_net.specs.Scan.{names, signal, observers, outputs, cells}
-use Rattle.bench_net.specs.Circuit.{IsWellFormed}
 use Rattle.bench_net.proofs.Public.{name_of-signal}
+use Rattle.bench_net.specs.declared.Sink.TheVariants as sink
 use Rattle.list_lemmas.proofs.Members.{Among, among, contained, among_append, among_right}
-use Rattle.list_lemmas.proofs.Members.{mapped_from}
-use Rattle.list_lemmas.proofs.Places.{at_place, numbered_at, place_within}
+use Rattle.list_lemmas.proofs.{Members.mapped_from, Places.{at_place, numbered_at, place_within}}
 use Rattle.faultsim_c.specs.Calls.{observed}
 
 -- the numbers of the observed names: the outputs' numbers, and the cells' data pins'
@@ -44,8 +40,7 @@ seconds (x ∷ cells) [] p q e =
     let bad : ◌≡◌ {A = List (ℕ × ℕ)} ((x.q, x.d)
     ∷ map (λ (cell : ScanCell). (cell.q, cell.d)) cells) [] = e in cc
 seconds (x ∷ cells) (y ∷ ps) p q e =
-    let is : ◌≡◌ {A = List (ℕ × ℕ)} ((x.q, x.d)
-    ∷ map (λ (cell : ScanCell). (cell.q, cell.d)) cells)
+    let is : ◌≡◌ {A = List (ℕ × ℕ)} ((x.q, x.d) ∷ map (λ (cell : ScanCell). (cell.q, cell.d)) cells)
     ((p y, q y) ∷ map (λ qd. (p qd, q qd)) ps) = e in
     let tails : map {B = ℕ × ℕ} (λ (cell : ScanCell). (cell.q, cell.d)) cells
     ≡ map (λ qd. (p qd, q qd)) ps = cc in
@@ -60,8 +55,7 @@ module _ (c : List Statement) (outs : List ℕ) (items : List ScanCell)
     ≡ map (λ cell. (signal c cell.0, signal c cell.1)) (cells c)) where
   -- the observed signals are the outputs' signals, and then the data pins'
   pub observed_split : observed c ≡ outs ++ map (λ (cell : ScanCell). cell.d) items
-  observed_split =
-      map-append (λ (o : Sink × Name). signal c o.1)
+  observed_split = map-append (λ (o : Sink × Name). signal c o.1)
       (map (λ at. (sink.Out at.0, at.1)) (enumerate_from 0 (outputs c)))
       (map (λ at. (sink.Data at.0, at.1.1)) (enumerate_from 0 (cells c)))
       ∙ (ap (λ xs. xs ++ map (λ (o : Sink × Name). signal c o.1)
@@ -73,14 +67,12 @@ module _ (c : List Statement) (outs : List ℕ) (items : List ScanCell)
 
   -- their number
   pub observed_count : length (observed c) ≡ length outs + length items
-  observed_count =
-      ap (λ (l : List ℕ). length l) observed_split
+  observed_count = ap (λ (l : List ℕ). length l) observed_split
       ∙ length-append outs (map (λ (cell : ScanCell). cell.d) items)
       ∙ ap (λ n. length outs + n) (length-map items (λ (cell : ScanCell). cell.d))
 
   pub observed_output : (i : ℕ) → i < length outs → get_or outs i 0 ≡ get_or (observed c) i 0
-  observed_output i lt =
-      sym (ap (λ (l : List ℕ). get_or l i 0) observed_split
+  observed_output i lt = sym (ap (λ (l : List ℕ). get_or l i 0) observed_split
       ∙ get_or_append_left outs (map (λ (cell : ScanCell). cell.d) items) 0 i lt)
 
   pub observed_cell : (i : ℕ) (cell : ScanCell) → length outs ≤ i
@@ -124,8 +116,7 @@ observed_named c o well a = well.all_defined o.1
         let p = mapped_from (λ at. (sink.Out at.0, at.1)) (enumerate_from 0 (outputs c)) o h in
         let it : (sink.Out p.0.0, p.0.1) ≡ o = p.2 in
         subst (λ (x : Sink × Name). Among x.1 (flat_map read c)) it
-        (output_read c p.0.1 (at_place (outputs c) p.0.0 p.0.1
-        (numbered_at (outputs c) p.0 p.1)))
+        (output_read c p.0.1 (at_place (outputs c) p.0.0 p.0.1 (numbered_at (outputs c) p.0 p.1)))
     go (inr h) =
         let p = mapped_from (λ at. (sink.Data at.0, at.1.1)) (enumerate_from 0 (cells c)) o h in
         let it : (sink.Data p.0.0, p.0.1.1) ≡ o = p.2 in

@@ -4,18 +4,15 @@
 --     fields_of               what the two fields own
 --     fields_out, fields_in   they own no more than the handle does
 use Rattle.std.proofs.Common.{◌≡◌, List, [], ◌∷◌, ◌++◌, refl, ap, ◌∙◌, lit<}
+use Rattle.std.proofs.alloc.Calls.{Al, α, Fits, handle_tells}
 use seplogic.Ra.Ura.{Ura}
 use lib.Dec.{T}
-use mir.Syntax.{ty_ptr, ty_struct}
-use mir.Val.{Val, vstruct, of_list, has_ty, WT}
+use mir.{Syntax.{ty_ptr, ty_struct}, Val.{Val, vstruct, of_list, has_ty, WT}}
 use base.Fml.{Fml, ftrue, fsep, feq, fex}
-use types.Logic.{Logic}
+use types.{Logic.Logic, Kit.feq_i}
 use types.Kit.{Goal, Seq, Step, step, Item, ‵, ◌$◌, move, drop, fsplit, fjoin, fpick, fpack, feq_l}
-use types.Kit.{feq_i}
-use denote.RawPtr.{Ptr, block_ptr, null_ptr, ptr_val}
-use denote.Steps.{nothing}
+use denote.{RawPtr.{Ptr, block_ptr, null_ptr, ptr_val}, Steps.nothing}
 use denote.Struct.Struct.{to_tys, as_fields}
-use Rattle.std.proofs.alloc.Calls.{Al, α, Fits, handle_tells}
 
 abbrev pub word : Ptr → Val → Val
 word p handle = vstruct (of_list (ptr_val p ∷ handle ∷ []))
@@ -45,20 +42,17 @@ module _ (Z : Al) {M : Type 1} {𝓤 : Ura M} {𝓛 : Logic 𝓤} {K : Type 0} {
     (Item 𝓤)} {G : Goal 𝓤 𝓛.H} where
   pub fields_out : K → (p : Ptr) (a : Z.row.Denot) (vs : List Val)
       → ((handle : Val) → vs ≡ word p handle ∷ [] → Fits Z handle
-      → Seq K 𝓛 (‵ (Z.row.own_val a (handle ∷ [])) ∷ Γ) G)
-      → Seq K 𝓛 (‵ (fields_of Z p a vs) ∷ Γ) G
+      → Seq K 𝓛 (‵ (Z.row.own_val a (handle ∷ [])) ∷ Γ) G) → Seq K 𝓛 (‵ (fields_of Z p a vs) ∷ Γ) G
   fields_out t p a vs rest =
       fpick t (λ parts. fsplit t $ feq_l t (λ whole. fsplit t $ feq_l t (λ first. fsplit t $
-      move t (1 ∷ []) $ drop t $
-      handle_tells Z t a parts.1.0 (λ handle second fits. rest handle
+      move t (1 ∷ []) $ drop t $ handle_tells Z t a parts.1.0 (λ handle second fits. rest handle
       (whole ∙ ap (λ (ps : List Val). vstruct (of_list (ps ++ (parts.1.0 ++ []))) ∷ []) first
       ∙ ap (λ (hs : List Val). vstruct (of_list (ptr_val p ∷ (hs ++ []))) ∷ []) second) fits))))
 
   pub fields_in : K → (p : Ptr) (a : Z.row.Denot) {handle : Val}
       → Step K 𝓛 (‵ (fields_of Z p a (word p handle ∷ [])) ∷ Γ) G (‵ (Z.row.own_val a (handle
       ∷ [])) ∷ Γ) G
-  fields_in t p a {handle} = step (λ s.
-      nothing t $ move t (1 ∷ []) $ fjoin t $
+  fields_in t p a {handle} = step (λ s. nothing t $ move t (1 ∷ []) $ fjoin t $
       feq_i t (List Val) (ptr_val p ∷ []) (ptr_val p ∷ []) refl $ fjoin t $
       feq_i t (List Val) (word p handle ∷ []) (word p handle ∷ []) refl $ fjoin t $
       fpack t (Parts Z) (in_parts Z p a (word p handle ∷ [])) (ptr_val p ∷ [], (handle ∷ [], tt)) $

@@ -1,14 +1,11 @@
 -- The meaning of the status if tests in words aren't taken.
 use Rattle.std.proofs.Common.{◌≡◌, ◌⊎◌, inl, inr, ℕ, Bool, false, List, refl, subst, arith}
-use Rattle.patterns.specs.Making.{IsWordsRefusal}
-use Rattle.patterns.specs.declared.WordsFault.{WordsFault}
+use Rattle.patterns.specs.{Making.IsWordsRefusal, declared.WordsFault.WordsFault}
 use Rattle.patterns.specs.declared.WordsFault.TheVariants as words
 use Rattle.bench_net.specs.declared.BenchFault.TheVariants as bench
 use Rattle.patterns.specs.declared.TestFault.TheVariants as tests
-use Rattle.faultsim_c.specs.Statuses.{AreTooMany}
-use Rattle.faultsim_c.specs.Statuses.{IsWordsReply, error_numbers, status_number}
-use Rattle.faultsim_c.specs.declared.status.FsFault.{FsFault}
-use Rattle.faultsim_c.specs.declared.status.Refusal.{Refusal}
+use Rattle.faultsim_c.specs.Statuses.{AreTooMany, IsWordsReply, error_numbers, status_number}
+use Rattle.faultsim_c.specs.declared.status.{FsFault.FsFault, Refusal.Refusal}
 use Rattle.faultsim_c.specs.declared.status.Refusal.TheVariants as refusal
 
 two_three : ◌≡◌ {A = ℕ} 2 3 → ⊥

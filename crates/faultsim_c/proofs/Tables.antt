@@ -1,9 +1,7 @@
 -- A table that is filled from its first place on.
 use Rattle.std.proofs.Common.{◌≡◌, ◌<◌, ◌≤◌, ◌+◌, ◌⊎◌, inl, inr, ℕ, List, get_or, length, set, sym}
-use Rattle.std.proofs.Common.{subst, arith}
-use Rattle.std.specs.Prelude.{slice_index}
-use Rattle.std.proofs.lemmas.Bool.{cases_lt}
-use Rattle.std.proofs.lemmas.List.{get_or-set_same, get_or-set_other}
+use Rattle.std.{proofs.Common.{subst, arith}, specs.Prelude.slice_index}
+use Rattle.std.proofs.lemmas.{Bool.cases_lt, List.{get_or-set_same, get_or-set_other}}
 
 -- one place more of any table
 pub next_of : {X : Type 0} (d : X) (P : ℕ → X → Type 0) (place : ℕ) (r : X) (table : List X)

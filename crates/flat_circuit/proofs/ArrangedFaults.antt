@@ -1,20 +1,12 @@
 -- The faults of a circuit, moved to the circuit with its statements in the order of their places.
-use Rattle.std.proofs.Common.{◌≡◌, ◌∙◌, ap, subst, List}
-use Rattle.std.specs.Prelude.{Contains, Some}
-use Rattle.bench_net.specs.Statement.{Name, Statement}
-use Rattle.bench_net.specs.Scan.{names, signal}
+use Rattle.std.{proofs.Common.{◌≡◌, ◌∙◌, ap, subst, List}, specs.Prelude.{Contains, Some}}
+use Rattle.bench_net.specs.{Statement.{Name, Statement}, Scan.{names, signal}}
 use Rattle.bench_net.specs.Circuit.{IsCircuit, IsWellFormed}
-use Rattle.fault_model.specs.declared.Model.{Model}
-use Rattle.fault_model.specs.Detection.{name_on}
-use Rattle.fault_model.specs.Fault.{Fault, faults}
+use Rattle.fault_model.specs.{declared.Model.Model, Detection.name_on, Fault.{Fault, faults}}
 use Rattle.fault_model.specs.Reordered.{moved_fault, moved_line}
-use Rattle.fault_model.proofs.Public.{carries, circuit_reordered}
-use Rattle.fault_model.proofs.Public.{same_sinks}
-use Rattle.flat_circuit.specs.declared.origin.Origin.{Origin}
-use Rattle.flat_circuit.specs.declared.words.Stuck.{Stuck}
-use Rattle.flat_circuit.specs.Arranged.{IsArranged}
-use Rattle.flat_circuit.specs.Origins.{IsStuckOf, Starts}
-use Rattle.flat_circuit.specs.Stuck.{stuck_fault}
+use Rattle.fault_model.proofs.Public.{carries, circuit_reordered, same_sinks}
+use Rattle.flat_circuit.specs.declared.{origin.Origin.Origin, words.Stuck.Stuck}
+use Rattle.flat_circuit.specs.{Arranged.IsArranged, Origins.{IsStuckOf, Starts}, Stuck.stuck_fault}
 use Rattle.flat_circuit.proofs.ArrangedSignals.{reordered, well_there}
 
 pub circuit_there : (c d : List Statement) → IsCircuit c → IsArranged c d → IsCircuit d
@@ -46,8 +38,7 @@ module _ (c d : List Statement) (well : IsWellFormed c) (arranged : IsArranged c
   -- a fault of the list moves to a fault of the list of the second circuit
   pub listed_there : (m : Model) (f : Fault) → Contains (faults m c) f
       → Contains (faults m d) (moved_fault c d f)
-  listed_there m f listed =
-      (same_sinks c d well (reordered c d well arranged)).listed m f listed
+  listed_there m f listed = (same_sinks c d well (reordered c d well arranged)).listed m f listed
 
   -- and its line carries a name in the second circuit
   pub carries_there : (m : Model) (f : Fault) → Contains (faults m c) f

@@ -1,15 +1,11 @@
 -- Rows of a circuit whose statements stand in another order. The facts about a signal in the rows
 -- of the first circuit hold for the moved signal.
-use Rattle.std.proofs.Common.{ℕ, sym, ◌∙◌, subst, List, map}
-use Rattle.std.specs.Prelude.{All, Contains}
+use Rattle.std.{proofs.Common.{ℕ, sym, ◌∙◌, subst, List, map}, specs.Prelude.{All, Contains}}
 use Rattle.std.proofs.lemmas.List.Elements.{All-map}
-use Rattle.bench_net.specs.Statement.{Statement}
-use Rattle.bench_net.specs.Circuit.{IsWellFormed}
+use Rattle.bench_net.specs.{Statement.Statement, Circuit.IsWellFormed}
 use Rattle.list_lemmas.proofs.Members.{among, contained, among_map}
 use Rattle.fault_model.specs.Reordered.{IsReordered, place}
-use Rattle.flat_circuit.specs.Readers.{Reads, IsLive}
-use Rattle.flat_circuit.specs.Flat.{AreReaders}
-use Rattle.flat_circuit.specs.Reordered.{HasSameReaders}
+use Rattle.flat_circuit.specs.{Readers.{Reads, IsLive}, Flat.AreReaders, Reordered.HasSameReaders}
 use Rattle.flat_circuit.proofs.ReorderedReaders.{same_readers}
 
 module _ (c d : List Statement) (well : IsWellFormed c) (is : IsReordered c d) where

@@ -1,36 +1,28 @@
 -- A circuit, and the circuit with its statements in the order of their places: the place of each
 -- signal is its number in the second.
-use Rattle.std.proofs.Common.{◌≡◌, ◌<◌, ◌≤◌, ℕ, refl, sym, ◌∙◌, ap, subst, List, [], ◌∷◌}
-use Rattle.std.proofs.Common.{arith, inl, inr, length, ◌⊎◌}
-use Rattle.std.proofs.lemmas.Bool.{cases_order}
+use Rattle.std.proofs.Common.{◌≡◌, ◌<◌, ◌≤◌, ℕ, refl, sym, ◌∙◌, ap, subst, List, [], ◌∷◌, arith}
+use Rattle.std.proofs.{Common.{inl, inr, length, ◌⊎◌}, lemmas.Bool.cases_order}
 use Rattle.std.specs.Prelude.{Contains, Some, slice_index_or, map}
-use Rattle.std.proofs.lemmas.List.Elements.{Contains-get_or}
-use Rattle.std.proofs.lemmas.Option.{slice_get-get_or}
+use Rattle.std.proofs.lemmas.{List.Elements.Contains-get_or, Option.slice_get-get_or}
 use Rattle.bench_net.specs.declared.Sink.TheVariants as sink
-use Rattle.bench_net.specs.Statement.{Name, Statement, Gate}
-use Rattle.bench_net.specs.Scan.{names, observers, sources, signal}
-use Rattle.bench_net.specs.Circuit.{IsWellFormed}
-use Rattle.bench_net.specs.Level.{HasDepth, HasLevel}
+use Rattle.bench_net.specs.{Statement.{Name, Statement, Gate}, Circuit.IsWellFormed}
+use Rattle.bench_net.specs.{Scan.{names, observers, sources, signal}, Level.{HasDepth, HasLevel}}
 use Rattle.bench_net.proofs.Public.{name_of-signal, read_named}
 use Rattle.list_lemmas.proofs.Members.{Among, among, among_map}
 use Rattle.list_lemmas.proofs.Places.{at_place, place_within, within_place}
-use Rattle.patterns.specs.Least.{below}
-use Rattle.patterns.proofs.Public.{get_or-below, length-below}
+use Rattle.patterns.{specs.Least.below, proofs.Public.{get_or-below, length-below}}
 use Rattle.fault_model.specs.declared.Line.TheVariants as line
-use Rattle.fault_model.specs.Detection.{name_on}
-use Rattle.fault_model.specs.Reordered.{HasSameSignals, IsReordered, place}
-use Rattle.fault_model.proofs.Public.{below_greatest, in_signal_order}
-use Rattle.fault_model.proofs.Public.{same_signals, same_sources, well_reordered}
+use Rattle.fault_model.specs.{Detection.name_on, Reordered.{HasSameSignals, IsReordered, place}}
+use Rattle.fault_model.proofs.Public.{below_greatest, in_signal_order, same_signals, same_sources}
+use Rattle.fault_model.proofs.Public.{well_reordered}
 use Rattle.flat_circuit.specs.Arranged.{ArePlaces, IsArranged, IsFlowOrder}
-use Rattle.flat_circuit.specs.Readers.{Reads, IsRising}
+use Rattle.flat_circuit.{specs.Readers.{Reads, IsRising}, proofs.Readers.no_loop}
 use Rattle.flat_circuit.proofs.ObservedLines.{data_observed, output_observed, observed_named}
-use Rattle.flat_circuit.proofs.Readers.{no_loop}
 use Rattle.flat_circuit.proofs.ReorderedReaders.{reads_back}
 
 module _ (c d : List Statement) (well : IsWellFormed c) (arranged : IsArranged c d) where
   pub reordered : IsReordered c d
-  reordered =
-      subst (IsReordered c) (sym arranged.2)
+  reordered = subst (IsReordered c) (sym arranged.2)
       (in_signal_order c arranged.0 arranged.1.signals well).reordered
 
   pub well_there : IsWellFormed d
@@ -74,24 +66,16 @@ module _ (c d : List Statement) (well : IsWellFormed c) (arranged : IsArranged c
       (among (observers c) (sink.Out o, n) (output_observed c o n e))
 
   -- the order has at a place the signal of this place
-  pub at_order : (i : ℕ) → i < length arranged.0
-      → place c d (slice_index_or arranged.0 i 0) ≡ i
-  at_order i lt =
-      ap (λ x. place c x (slice_index_or arranged.0 i 0)) arranged.2
+  pub at_order : (i : ℕ) → i < length arranged.0 → place c d (slice_index_or arranged.0 i 0) ≡ i
+  at_order i lt = ap (λ x. place c x (slice_index_or arranged.0 i 0)) arranged.2
       ∙ (in_signal_order c arranged.0 arranged.1.signals well).places i
-      (slice_index_or arranged.0 i 0)
-      (slice_get-get_or arranged.0 i 0 lt)
+      (slice_index_or arranged.0 i 0) (slice_get-get_or arranged.0 i 0 lt)
 
   -- a statement that stands before another in the second circuit stands before it in the order
   stands_at : (i : ℕ) → i < length (names d)
       → (i < length arranged.0) × (place c d (slice_index_or arranged.0 i 0) ≡ i)
   stands_at i lt =
-      let long : i < length arranged.0 = omega (
-        arith,
-        lt,
-        count_there,
-        arranged.1.signals.count,
-      ) in
+      let long : i < length arranged.0 = omega (arith, lt, count_there, arranged.1.signals.count) in
       (long, at_order i long)
 
   rises : (i j : ℕ) → i < j → j < length (names d) → Reads d i j → ⊥
@@ -141,13 +125,11 @@ module _ (c d : List Statement) (well : IsWellFormed c) (arranged : IsArranged c
           omega (arith, at.1.0, at.1.1, less));
     };
     forward = λ i j k less long reads. (let at = numbers i j k less long in
-        rises i j less at.0
-        (subst (Reads d i) at.1.1 (subst (λ x. Reads d x
+        rises i j less at.0 (subst (Reads d i) at.1.1 (subst (λ x. Reads d x
         (slice_index_or (below (length (names d))) j k)) at.1.0 reads)));
   }
     where
-      numbers : (i j k : ℕ) → i < j → j < length (below (length (names d)))
-          → (j < length (names d))
+      numbers : (i j k : ℕ) → i < j → j < length (below (length (names d))) → (j < length (names d))
           × ((slice_index_or (below (length (names d))) i k ≡ i)
           × (slice_index_or (below (length (names d))) j k ≡ j))
       numbers i j k less long =

@@ -1,19 +1,15 @@
 -- The signal that a line carries, from the results of the calls of a circuit.
 use Rattle.std.proofs.Common.{◌≡◌, ◌<◌, ℕ, zero, suc, refl, sym, ◌∙◌, ap, subst, List, [], ◌∷◌}
-use Rattle.std.proofs.Common.{length}
+use Rattle.std.{proofs.Common.length, specs.Prelude.option_map, proofs.lemmas.List.length-map}
 use Rattle.std.specs.Prelude.{Option, Some, None, map, slice_get, slice_index_or, unwrap_or}
-use Rattle.std.specs.Prelude.{option_map}
-use Rattle.std.proofs.lemmas.List.{length-map}
-use Rattle.bench_net.specs.declared.Kind.{Kind}
-use Rattle.bench_net.specs.declared.ScanCell.{ScanCell}
+use Rattle.bench_net.specs.declared.{Kind.Kind, ScanCell.ScanCell}
 use Rattle.bench_net.specs.Statement.{Name, Statement, Input, Output, Gate, Dff}
 use Rattle.bench_net.specs.Scan.{names, signal, definition, gate_line, gate_of, cells, outputs}
 use Rattle.bench_net.proofs.Public.{definition_defines}
 use Rattle.list_lemmas.proofs.Places.{place_within}
 use Rattle.fault_model.specs.declared.Line.TheVariants as line
 use Rattle.fault_model.specs.Detection.{argument, name_on}
-use Rattle.flat_circuit.proofs.DataPins.{data_signals}
-use Rattle.flat_circuit.proofs.ListPlaces.{mapped_at}
+use Rattle.flat_circuit.proofs.{DataPins.data_signals, ListPlaces.mapped_at}
 
 -- a pin that reads a name is a pin of a gate
 pub record PinOf (c : List Statement) (gate pin : ℕ) (n : Name) : Type 0 where
@@ -57,8 +53,7 @@ is_gate_there c gate pin n e none = let p = pin_of c gate pin n e in
     never (gate_of c gate) (p.kind, map (signal c) p.args) (ap (gate_line c) p.is) none
 
 pub pin_reads_signal : (c : List Statement) (gate pin : ℕ) (n : Name) (kind : Kind) (pins : List ℕ)
-    → argument (definition c gate) pin ≡ Some n
-    → Some (kind, pins) ≡ gate_of c gate
+    → argument (definition c gate) pin ≡ Some n → Some (kind, pins) ≡ gate_of c gate
     → (pin < length pins) × (slice_index_or pins pin 0 ≡ signal c n)
 pin_reads_signal c gate pin n kind pins e at =
     let p = pin_of c gate pin n e in

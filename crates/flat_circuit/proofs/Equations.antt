@@ -1,24 +1,19 @@
 -- The words that the code computes satisfy the equations of their signals.
 use Rattle.std.proofs.Common.{◌≡◌, ◌<◌, ◌≤◌, ℕ, ◌+◌, ◌*◌, refl, sym, ◌∙◌, ap, subst, Bool, true}
-use Rattle.std.proofs.Common.{false, List, [], ◌∷◌, length, arith, inl, inr}
+use Rattle.std.{proofs.Common.{false, List, [], ◌∷◌, length, arith, inl, inr}, specs.Int.bit_at}
 use Rattle.std.specs.Prelude.{All, Contains, Option, Some, None, map, flat_map, slice_get}
 use Rattle.std.specs.Prelude.{slice_index_or, unwrap_or, ◌==◌}
-use Rattle.std.proofs.lemmas.List.Elements.{Contains-get_or}
-use Rattle.std.specs.Int.{bit_at}
-use Rattle.std.proofs.lemmas.List.{length-append, length-map}
-use Rattle.bench_net.specs.declared.Kind.{Kind}
+use Rattle.std.proofs.lemmas.List.{Elements.Contains-get_or, length-append, length-map}
+use Rattle.bench_net.specs.{declared.Kind.Kind, Reading.HasArity, Scan.{cells, sources}}
 use Rattle.bench_net.specs.declared.Kind.TheVariants.{And, Nand, Or, Nor, Xor, Xnor, Not, Buff}
-use Rattle.bench_net.specs.Reading.{HasArity}
 use Rattle.bench_net.specs.Statement.{Name, Statement, Input, Output, Gate, Dff, read}
 use Rattle.bench_net.specs.Scan.{names, signal, name_of, definition, gate_of, gate_line, inputs}
-use Rattle.bench_net.specs.Scan.{cells, sources}
 use Rattle.bench_net.specs.Circuit.{IsWellFormed, IsCircuit, max_sinks, sink_count}
-use Rattle.list_lemmas.proofs.Members.{Among, among, contained, among_left, among_right}
 use Rattle.bench_net.proofs.Public.{definition_defines, name_of-signal, signal-name_of, read_named}
+use Rattle.list_lemmas.proofs.Members.{Among, among, contained, among_left, among_right}
 use Rattle.list_lemmas.proofs.Places.{at_place, placed, place_within, within_place}
 use Rattle.fault_model.specs.declared.Line.TheVariants as line
-use Rattle.fault_model.specs.Fault.{Fault}
-use Rattle.fault_model.specs.Solution.{Test, value, under}
+use Rattle.fault_model.specs.{Fault.Fault, Solution.{Test, value, under}}
 use Rattle.fault_model.proofs.Public.{Driven, driven, IsSource, definition-signal}
 use Rattle.fault_model.proofs.Public.{source_definition, source_place}
 use Rattle.patterns.specs.Tests.{as_number, bit}

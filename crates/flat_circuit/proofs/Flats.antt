@@ -1,28 +1,19 @@
 -- Flat lists that grow by one signal at a time, and the facts that a row of them gives.
 use Rattle.std.proofs.Common.{◌≡◌, ◌≢◌, ◌<◌, ◌≤◌, ℕ, ◌+◌, ◌-◌, sym, ◌∙◌, ap, subst, List, [], ◌∷◌}
 use Rattle.std.proofs.Common.{◌++◌, length, zero, suc, arith, inl, inr, ◌⊎◌, take, drop, refl}
-use Rattle.std.specs.Prelude.{All, Contains, Some, slice_get, slice_index_or}
-use Rattle.std.specs.Prelude.{IfSome, IsTrue, slice_range, ◌↔◌}
-use Rattle.std.specs.Option.{option_map}
-use Rattle.std.proofs.lemmas.List.{length-append, take-append-le, drop-append-le}
-use Rattle.std.proofs.lemmas.List.{length-drop}
+use Rattle.std.specs.Prelude.{All, Contains, Some, slice_get, slice_index_or, IfSome, IsTrue}
+use Rattle.std.specs.{Prelude.{slice_range, ◌↔◌}, Option.option_map}
+use Rattle.std.proofs.lemmas.List.{length-append, take-append-le, drop-append-le, length-drop}
 use Rattle.std.proofs.lemmas.List.Elements.{All-push, Contains-append_left, Contains-push}
-use Rattle.bench_net.specs.declared.Sink.{Sink}
-use Rattle.bench_net.specs.declared.Sink.TheVariants as sink
-use Rattle.bench_net.specs.Statement.{Name, Statement}
+use Rattle.bench_net.specs.{declared.Sink.Sink, Statement.{Name, Statement}, Circuit.IsWellFormed}
 use Rattle.bench_net.specs.Scan.{names, name_of, sinks}
-use Rattle.bench_net.specs.Circuit.{IsWellFormed}
-use Rattle.list_lemmas.proofs.Members.{Among}
-use Rattle.list_lemmas.proofs.Places.{placed, place_within}
-use Rattle.flat_circuit.specs.declared.flat.SignalRow.{SignalRow}
-use Rattle.flat_circuit.specs.Readers.{IsLive, IsObserved, Reads}
-use Rattle.flat_circuit.specs.declared.flat.Lists.{Lists}
-use Rattle.flat_circuit.specs.declared.flat.Standing.{Standing}
+use Rattle.bench_net.specs.declared.Sink.TheVariants as sink
+use Rattle.list_lemmas.proofs.{Members.Among, Places.{placed, place_within}}
+use Rattle.flat_circuit.specs.declared.flat.{SignalRow.SignalRow, Lists.Lists, Standing.Standing}
+use Rattle.flat_circuit.specs.{Readers.{IsLive, IsObserved, Reads}, GateForms.IsFormOf}
 use Rattle.flat_circuit.specs.Flat.{AreReaders, IsRow, HasMore, AreRowsAt, IsFlat, IsStanding}
 use Rattle.flat_circuit.specs.Flat.{AreListsOf, AreMoved, AreStandingsAt, HasEnds, IsMoved}
-use Rattle.flat_circuit.specs.GateForms.{IsFormOf}
-use Rattle.flat_circuit.proofs.Readers.{read_sink}
-use Rattle.flat_circuit.proofs.Rows.{appended_get, pushed_get}
+use Rattle.flat_circuit.proofs.{Readers.read_sink, Rows.{appended_get, pushed_get}}
 use Rattle.flat_circuit.proofs.ObservedSinks.{same_gate, at_end}
 
 -- ---- ranges of a list
@@ -49,8 +40,7 @@ gathered_none c s items = record {
 
 module _ (c : List Statement) (well : IsWellFormed c) (s : ℕ) (n : Name)
     (named : name_of c s ≡ Some n) (items : List Sink) (are : items ≡ sinks c n) (i : ℕ)
-    (readers : List ℕ)
-    (h : AreGathered c s items i readers) where
+    (readers : List ℕ) (h : AreGathered c s items i readers) where
   -- a sink that is no gate's pin
   pub gathered_passed : (k d : Sink) → i < length items → slice_index_or items i d ≡ k
       → ((gate pin : ℕ) → k ≢ sink.Pin gate pin) → AreGathered c s items (i + 1) readers

@@ -1,20 +1,13 @@
 -- The signals in a topological order: each once, and the pins of a gate before it.
 use Rattle.std.proofs.Common.{◌≡◌, ◌<◌, ◌⊎◌, ℕ, sym, ◌∙◌, subst, List, length, inl, inr}
-use Rattle.std.specs.Prelude.{Contains, slice_index_or}
-use Rattle.std.proofs.lemmas.Bool.{cases_order}
-use Rattle.std.proofs.lemmas.List.{get_or_default}
-use Rattle.std.proofs.lemmas.List.Elements.{Contains-get_or}
-use Rattle.bench_net.specs.declared.Kind.{Kind}
-use Rattle.bench_net.specs.Statement.{Name, Statement, Gate}
-use Rattle.bench_net.specs.Scan.{names, signal}
-use Rattle.bench_net.specs.Circuit.{IsWellFormed}
+use Rattle.std.{specs.Prelude.{Contains, slice_index_or}, proofs.lemmas.Bool.cases_order}
+use Rattle.std.proofs.lemmas.List.{get_or_default, Elements.Contains-get_or}
+use Rattle.bench_net.specs.{declared.Kind.Kind, Statement.{Name, Statement, Gate}}
+use Rattle.bench_net.specs.{Scan.{names, signal}, Circuit.IsWellFormed}
 use Rattle.bench_net.proofs.Public.{name_of-signal, read_named}
-use Rattle.list_lemmas.proofs.Members.{Among, among, contained}
-use Rattle.list_lemmas.proofs.Places.{place_within}
+use Rattle.list_lemmas.proofs.{Members.{Among, among, contained}, Places.place_within}
 use Rattle.fault_model.proofs.Public.{Spans, span_within}
-use Rattle.flat_circuit.specs.Arranged.{IsFlowOrder}
-use Rattle.flat_circuit.specs.Readers.{Reads}
-use Rattle.flat_circuit.proofs.Readers.{no_loop}
+use Rattle.flat_circuit.{specs.Arranged.IsFlowOrder, specs.Readers.Reads, proofs.Readers.no_loop}
 
 flow_spans : (c : List Statement) (order : List ℕ) → IsFlowOrder c order
     → Spans (length (names c)) order

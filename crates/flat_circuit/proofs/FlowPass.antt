@@ -1,21 +1,13 @@
 -- A pass in a topological order: once a signal is passed its word is right, and stays so.
 use Rattle.std.proofs.Common.{◌≡◌, ◌<◌, ◌≤◌, ℕ, ◌+◌, sym, ◌∙◌, subst, List, length, set, arith, inl}
-use Rattle.std.proofs.Common.{inr, ◌⊎◌}
-use Rattle.std.specs.Prelude.{Option, slice_index_or}
-use Rattle.std.proofs.lemmas.Bool.{cases_lt}
-use Rattle.std.proofs.lemmas.List.{get_or_default, get_or-set_same}
-use Rattle.bench_net.specs.Statement.{Statement}
-use Rattle.bench_net.specs.Scan.{names}
-use Rattle.bench_net.specs.Circuit.{IsWellFormed}
-use Rattle.patterns.specs.Least.{below}
-use Rattle.patterns.proofs.Public.{get_or-below, length-below}
-use Rattle.fault_model.specs.Fault.{Fault}
-use Rattle.fault_model.specs.Solution.{Test}
-use Rattle.flat_circuit.specs.Arranged.{IsFlowOrder}
-use Rattle.flat_circuit.specs.Words.{AreWords, IsSignalWord}
+use Rattle.std.{proofs.Common.{inr, ◌⊎◌}, specs.Prelude.{Option, slice_index_or}}
+use Rattle.std.proofs.lemmas.{Bool.cases_lt, List.{get_or_default, get_or-set_same}}
+use Rattle.bench_net.specs.{Statement.Statement, Scan.names, Circuit.IsWellFormed}
+use Rattle.patterns.{specs.Least.below, proofs.Public.{get_or-below, length-below}}
+use Rattle.fault_model.specs.{Fault.Fault, Solution.Test}
+use Rattle.flat_circuit.specs.{Arranged.IsFlowOrder, Words.{AreWords, IsSignalWord}}
 use Rattle.flat_circuit.proofs.WordsToSolutions.{IsRight, right_by_equation, right_in_lanes}
-use Rattle.flat_circuit.proofs.WordsToSolutions.{right_kept}
-use Rattle.flat_circuit.proofs.FlowOrder.{flow_within, pins_first}
+use Rattle.flat_circuit.proofs.{WordsToSolutions.right_kept, FlowOrder.{flow_within, pins_first}}
 
 -- the words of the first signals of the order are right
 abbrev pub ArePassed : List Statement → List Test → ℕ → Option Fault → List ℕ → List ℕ → ℕ → Type 0
@@ -50,8 +42,7 @@ module _ (c : List Statement) (tests : List Test) (group : ℕ) (f : Option Faul
           let same : i ≡ j = omega (arith, within, after) in
           let here : IsRight c tests group f (slice_index_or order i 0)
           (slice_index_or (set words (slice_index_or order i 0) word) (slice_index_or order i 0)
-          0) =
-          subst (IsRight c tests group f (slice_index_or order i 0))
+          0) = subst (IsRight c tests group f (slice_index_or order i 0))
           (sym (get_or-set_same words (slice_index_or order i 0) word 0 inside)) right in
           subst (λ m. IsRight c tests group f (slice_index_or order m 0)
           (slice_index_or (set words (slice_index_or order i 0) word) (slice_index_or order m 0)
@@ -60,8 +51,7 @@ module _ (c : List Statement) (tests : List Test) (group : ℕ) (f : Option Faul
   -- all signals
   pub passed_all : (words : List ℕ) (i : ℕ) → length order ≤ i
       → ArePassed c tests group f order words i → AreWords c tests group f words
-  passed_all words i le passed = right_in_lanes c tests group f words well
-      (λ s lt.
+  passed_all words i le passed = right_in_lanes c tests group f words well (λ s lt.
       let at = ordered.signals.all s lt in
       let there : slice_index_or order at.0 0 ≡ s = get_or_default order at.0 0 s at.1 ∙ at.2 in
       subst (λ m. IsRight c tests group f m (slice_index_or words m 0)) there

@@ -3,15 +3,11 @@ use Rattle.std.proofs.Common.{◌≡◌, ◌<◌, ◌≤◌, ℕ, zero, suc, ◌
 use Rattle.std.proofs.Common.{subst, Bool, List, [], ◌∷◌, ◌++◌, length, set, arith, Global, Vec}
 use Rattle.std.specs.Prelude.{None, Some, bit_xor, map, slice_get, slice_index_or, unwrap_or}
 use Rattle.std.proofs.lemmas.List.{map-append}
-use Rattle.bench_net.specs.Statement.{Statement}
-use Rattle.bench_net.specs.Scan.{names}
+use Rattle.bench_net.specs.{Statement.Statement, Scan.names}
 use Rattle.fault_model.specs.Solution.{Test}
 use Rattle.wide_words.specs.Layouts.{both_layout, one_of}
-use Rattle.flat_circuit.specs.BlockSpans.{groups}
-use Rattle.flat_circuit.specs.GateForms.{inverted_if}
-use Rattle.flat_circuit.specs.GroupRows.{AreRowsFrom}
-use Rattle.flat_circuit.specs.SlotWords.{copied_bit}
-use Rattle.flat_circuit.specs.Words.{AreWords, lane}
+use Rattle.flat_circuit.specs.{BlockSpans.groups, GateForms.inverted_if, GroupRows.AreRowsFrom}
+use Rattle.flat_circuit.specs.{SlotWords.copied_bit, Words.{AreWords, lane}}
 use Rattle.flat_circuit.proofs.GateLanes.{turned_lane}
 
 -- a bit that is inverted if this is asked for
@@ -63,10 +59,7 @@ module _ (c : List Statement) (tests : List Test) (group : ℕ) (first second th
     → length (one_of first second third fourth slot) ≡ length (names c)) where
   pub four_from : group + 4 ≤ groups (length tests)
       → AreRowsFrom c tests group (first ∷ second ∷ third ∷ fourth ∷ [])
-  four_from low = record {
-    within = omega (arith, low);
-    each = go;
-  }
+  four_from low = record { within = omega (arith, low); each = go }
     where
       one : (slot : ℕ) (row : List ℕ) → slot < 4
           → Some (one_of first second third fourth slot) ≡ Some row
@@ -77,8 +70,7 @@ module _ (c : List Statement) (tests : List Test) (group : ℕ) (first second th
             subst (AreWords c tests (group + slot) None) same (words slot lt),
           )
 
-      go : (k : ℕ) (row : List ℕ)
-          → slice_get (first ∷ second ∷ third ∷ fourth ∷ []) k ≡ Some row
+      go : (k : ℕ) (row : List ℕ) → slice_get (first ∷ second ∷ third ∷ fourth ∷ []) k ≡ Some row
           → (length row ≡ length (names c)) × AreWords c tests (group + k) None row
       go zero row is = one 0 row (omega arith) is
       go (suc zero) row is = one 1 row (omega arith) is

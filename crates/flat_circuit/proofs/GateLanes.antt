@@ -2,21 +2,16 @@
 -- the pins see.
 use Rattle.std.proofs.Common.{◌≡◌, ◌<◌, ◌≤◌, ℕ, zero, suc, ◌+◌, ◌-◌, ◌≢◌, refl, sym, ◌∙◌, ap, subst}
 use Rattle.std.proofs.Common.{Bool, true, false, not, ◌&&◌, List, [], ◌∷◌, ◌++◌, length, take}
-use Rattle.std.proofs.Common.{arith, inl, inr, ◌⊎◌}
-use Rattle.std.specs.Prelude.{Option, None, Some, map, slice_index_or, bit_and, bit_xor}
-use Rattle.std.specs.Prelude.{nat_lt, if◌then◌else◌}
-use Rattle.std.specs.List.{enumerate_from, list_all}
-use Rattle.std.proofs.lemmas.Bool.{cases_eq, lt-ltb}
-use Rattle.std.proofs.lemmas.List.{take_all, take_more}
-use Rattle.std.proofs.lemmas.List.Folds.{list_all_more}
+use Rattle.std.{proofs.Common.{arith, inl, inr, ◌⊎◌}, specs.Prelude.if◌then◌else◌}
+use Rattle.std.specs.Prelude.{Option, None, Some, map, slice_index_or, bit_and, bit_xor, nat_lt}
+use Rattle.std.{specs.List.{enumerate_from, list_all}, proofs.lemmas.Bool.{cases_eq, lt-ltb}}
+use Rattle.std.proofs.lemmas.List.{take_all, take_more, Folds.list_all_more}
 use Rattle.bench_net.specs.declared.Kind.{Kind}
 use Rattle.fault_model.specs.declared.Line.TheVariants as line
-use Rattle.fault_model.specs.Fault.{Fault}
-use Rattle.fault_model.specs.Solution.{under, is_odd, value}
+use Rattle.fault_model.specs.{Fault.Fault, Solution.{under, is_odd, value}}
 use Rattle.patterns.specs.Least.{below, from_up}
 use Rattle.flat_circuit.specs.declared.gate_form.GateForm.{GateForm}
-use Rattle.flat_circuit.specs.GateForms.{IsFormOf, inverted_if}
-use Rattle.flat_circuit.specs.Words.{lane, word_over, pin_bits}
+use Rattle.flat_circuit.specs.{GateForms.{IsFormOf, inverted_if}, Words.{lane, word_over, pin_bits}}
 use Rattle.flat_circuit.proofs.Lanes.{lane_and, lane_xor, lane_zero, lane_ones, unlike}
 
 -- the bit of one pin, and the number of pins
@@ -90,18 +85,14 @@ at_last n i started within passed at = go (cases_eq (n - 1) 0)
 -- number of them are 1.
 pub record AreFolds (f : Option Fault) (gate : ℕ) (pins words delta : List ℕ) (turn : Bool)
     (i all odd : ℕ) : Type 0 where
-  pub all_is : (k : ℕ) → k < 128
-      → lane all k ≡ list_all (λ b. inverted_if turn b)
+  pub all_is : (k : ℕ) → k < 128 → lane all k ≡ list_all (λ b. inverted_if turn b)
       (take i (pin_bits f gate pins words delta k))
   pub odd_is : (k : ℕ) → k < 128 → lane odd k ≡ is_odd (take i (pin_bits f gate pins words delta k))
 
 module _ (f : Option Fault) (gate : ℕ) (pins words delta : List ℕ) where
   pub folds_none : (turn : Bool)
       → AreFolds f gate pins words delta turn 0 340282366920938463463374607431768211455 0
-  folds_none turn = record {
-    all_is = λ k lt. lane_ones 128 k lt;
-    odd_is = λ k lt. lane_zero k;
-  }
+  folds_none turn = record { all_is = λ k lt. lane_ones 128 k lt; odd_is = λ k lt. lane_zero k }
 
   pub folds_more : (turn : Bool) (flips i all odd word : ℕ) → i < length pins
       → ((k : ℕ) → k < 128 → lane flips k ≡ turn) → AreFolds f gate pins words delta turn i all odd
@@ -110,19 +101,16 @@ module _ (f : Option Fault) (gate : ℕ) (pins words delta : List ℕ) where
       → AreFolds f gate pins words delta turn (i + 1) (bit_and all (bit_xor word flips))
       (bit_xor odd word)
   folds_more turn flips i all odd word lt flip h is = record {
-    all_is = λ k below.
-        lane_and all (bit_xor word flips) k
-        ∙ (rw (
-          h.all_is k below,
-          lane_xor word flips k,
-          bit k below,
-          flip k below,
-          inverted_there (slice_index_or (pin_bits f gate pins words delta k) i false) turn,
-        ) refl
+    all_is = λ k below. lane_and all (bit_xor word flips) k ∙ (rw (
+      h.all_is k below,
+      lane_xor word flips k,
+      bit k below,
+      flip k below,
+      inverted_there (slice_index_or (pin_bits f gate pins words delta k) i false) turn,
+    ) refl
         ∙ sym (list_all_more (λ b. inverted_if turn b) (pin_bits f gate pins words delta k) i false
         (within k)));
-    odd_is = λ k below.
-        lane_xor odd word k ∙ (rw (h.odd_is k below, bit k below) refl
+    odd_is = λ k below. lane_xor odd word k ∙ (rw (h.odd_is k below, bit k below) refl
         ∙ sym (ap is_odd (take_more (pin_bits f gate pins words delta k) i false (within k))
         ∙ is_odd_push (take i (pin_bits f gate pins words delta k))
         (slice_index_or (pin_bits f gate pins words delta k) i false)));
@@ -164,13 +152,11 @@ module _ (f : Option Fault) (gate : ℕ) (pins words delta : List ℕ) where
     all_is = λ k lt. whole.all_is k lt
         ∙ ap (λ n. list_all (λ b. inverted_if turn b) (take n (pin_bits f gate pins words delta k)))
         long;
-    odd_is = λ k lt.
-        lane_xor odd (bit_and word other) k
+    odd_is = λ k lt. lane_xor odd (bit_and word other) k
         ∙ (ap (unlike (lane odd k)) (lane_and word other k ∙ rw (
           others k lt,
           some,
-        ) (all_true (lane word k)))
-        ∙ (sym (lane_xor odd word k)
+        ) (all_true (lane word k))) ∙ (sym (lane_xor odd word k)
         ∙ (whole.odd_is k lt ∙ ap (λ n. is_odd (take n (pin_bits f gate pins words delta k)))
         long)));
   }
@@ -193,17 +179,13 @@ module _ (f : Option Fault) (gate : ℕ) (pins words delta : List ℕ) where
   folds_last turn flips i last all odd word other count (inr (one, none)) flip others h is more =
       record {
         all_is = λ k lt. lane_and all (bit_xor word flips) k
-            ∙ (rw (h.all_is k lt, same k lt) (twice _)
-            ∙ ap (λ n. list_all (λ b. inverted_if turn b)
-            (take n (pin_bits f gate pins words delta k)))
-            long);
-        odd_is = λ k lt.
-            lane_xor odd (bit_and word other) k
+            ∙ (rw (h.all_is k lt, same k lt) (twice _) ∙ ap (λ n. list_all (λ b. inverted_if turn b)
+            (take n (pin_bits f gate pins words delta k))) long);
+        odd_is = λ k lt. lane_xor odd (bit_and word other) k
             ∙ (ap (unlike (lane odd k)) (lane_and word other k ∙ rw (
               others k lt,
               none,
-            ) (none_true (lane word k)))
-            ∙ (unlike_false (lane odd k)
+            ) (none_true (lane word k))) ∙ (unlike_false (lane odd k)
             ∙ (h.odd_is k lt ∙ ap (λ n. is_odd (take n (pin_bits f gate pins words delta k)))
             long)));
       }
@@ -266,8 +248,7 @@ pub plain_pins : (gate : ℕ) (pins words : List ℕ) (k : ℕ)
     → map (λ s. lane (slice_index_or words s 0) k) pins ≡ pin_bits None gate pins words [] k
 plain_pins gate pins words k = go 0 pins
   where
-    go : (from : ℕ) (rest : List ℕ)
-        → map (λ s. lane (slice_index_or words s 0) k) rest
+    go : (from : ℕ) (rest : List ℕ) → map (λ s. lane (slice_index_or words s 0) k) rest
         ≡ map (λ at. under None (line.Pin gate at.0) (lane (word_over words [] at.1) k))
         (enumerate_from from rest)
     go from [] = refl
@@ -307,8 +288,7 @@ pins_by_place f gate pins words k =
     go : (from : ℕ) (rest : List ℕ)
         → ((i : ℕ) → i < length rest → slice_index_or rest i 0 ≡ slice_index_or pins (from + i) 0)
         → map (λ at. under (Some f) (line.Pin gate at.0) (lane (word_over words [] at.1) k))
-        (enumerate_from from rest)
-        ≡ map (pin_bit f gate pins words k) (from_up from (length rest))
+        (enumerate_from from rest) ≡ map (pin_bit f gate pins words k) (from_up from (length rest))
     go from [] same = refl
     go from (s ∷ rest) same =
         let here : s ≡ slice_index_or pins from 0 = same 0 (omega arith)
@@ -323,16 +303,14 @@ pins_by_place f gate pins words k =
 -- the word of a form, if the fold that it takes is known
 pub chosen_lane : (kind : Kind) (form : GateForm) (bits : List Bool) (core flips k : ℕ)
     → IsFormOf kind form → lane flips k ≡ form.inverts_output
-    → ((form.is_xor ≡ true) × (lane core k ≡ is_odd bits))
-    ⊎ ((form.is_xor ≡ false)
+    → ((form.is_xor ≡ true) × (lane core k ≡ is_odd bits)) ⊎ ((form.is_xor ≡ false)
     × (lane core k ≡ list_all (λ b. inverted_if form.inverts_inputs b) bits))
     → lane (bit_xor core flips) k ≡ value kind bits
 chosen_lane kind form bits core flips k formed flip chosen =
     turned_lane core flips k form.inverts_output flip
     ∙ (ap (inverted_if form.inverts_output) (go chosen) ∙ formed bits)
   where
-    go : ((form.is_xor ≡ true) × (lane core k ≡ is_odd bits))
-        ⊎ ((form.is_xor ≡ false)
+    go : ((form.is_xor ≡ true) × (lane core k ≡ is_odd bits)) ⊎ ((form.is_xor ≡ false)
         × (lane core k ≡ list_all (λ b. inverted_if form.inverts_inputs b) bits))
         → lane core k ≡ (if form.is_xor then is_odd bits else list_all
         (λ b. inverted_if form.inverts_inputs b) bits)

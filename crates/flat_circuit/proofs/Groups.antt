@@ -1,14 +1,11 @@
 -- The words of two blocks, side by side, and the lanes of some of their tests.
 use Rattle.std.proofs.Common.{◌≡◌, ◌<◌, ◌≤◌, ◌+◌, ◌*◌, ◌-◌, ◌^◌, ◌&&◌, ℕ, Bool, true, false, not}
-use Rattle.std.proofs.Common.{sym, ◌∙◌, ap, arith, List, inl, inr, ◌⊎◌}
-use Rattle.std.specs.Prelude.{bit_and, nat_lt}
-use Rattle.std.specs.Bool.{Decides}
-use Rattle.std.specs.Int.{bit_at, bit_not, w128}
+use Rattle.std.{proofs.Common.{sym, ◌∙◌, ap, arith, List, inl, inr, ◌⊎◌}, specs.Bool.Decides}
+use Rattle.std.specs.{Prelude.{bit_and, nat_lt}, Int.{bit_at, bit_not, w128}}
 use Rattle.std.proofs.lemmas.Bool.{cases_lt, false≢true, lt-ltb, le-ltb, ltb-true}
 use Rattle.fault_model.specs.Solution.{Test}
 use Rattle.patterns.specs.Tests.{as_number, bit, IsWord}
-use Rattle.flat_circuit.specs.Words.{lane, IsGroupWord}
-use Rattle.flat_circuit.proofs.Lanes.{lane_and, lane_not}
+use Rattle.flat_circuit.{specs.Words.{lane, IsGroupWord}, proofs.Lanes.{lane_and, lane_not}}
 use Rattle.flat_circuit.proofs.Steps.{left_of, right_of}
 
 pub joined_words : (tests : List Test) (group source low high word : ℕ)

@@ -1,28 +1,19 @@
 -- Keys of signals: the condition of a gate's line on its key, and a pass in level order that gives
 -- each signal a key.
 use Rattle.std.proofs.Common.{◌≡◌, ◌≢◌, ◌<◌, ◌≤◌, ℕ, ◌+◌, refl, sym, ◌∙◌, ap, subst, List, map}
-use Rattle.std.proofs.Common.{length, set, arith, inl, inr, ◌⊎◌}
+use Rattle.std.proofs.{Common.{length, set, arith, inl, inr, ◌⊎◌}, lemmas.Bool.cases_lt}
 use Rattle.std.specs.Prelude.{Contains, Option, Some, None, slice_index_or, unwrap_or}
-use Rattle.std.proofs.lemmas.Bool.{cases_lt}
 use Rattle.std.proofs.lemmas.List.{get_or_default, get_or-set_other, get_or-set_same}
-use Rattle.bench_net.specs.declared.Kind.{Kind}
-use Rattle.bench_net.specs.Statement.{Statement, Input, Output, Gate, Dff}
+use Rattle.bench_net.specs.{declared.Kind.Kind, Statement.{Statement, Input, Output, Gate, Dff}}
 use Rattle.bench_net.specs.Scan.{names, signal, sources, definition, gate_line, gate_of}
-use Rattle.bench_net.specs.Circuit.{IsWellFormed}
-use Rattle.bench_net.specs.Level.{GoesBefore, HasLevel, IsLevelOrder}
+use Rattle.bench_net.specs.{Circuit.IsWellFormed, Level.{GoesBefore, HasLevel, IsLevelOrder}}
 use Rattle.bench_net.proofs.Public.{signal-name_of}
-use Rattle.list_lemmas.proofs.Members.{among, among_map, contained}
-use Rattle.list_lemmas.proofs.Places.{at_place}
+use Rattle.list_lemmas.proofs.{Members.{among, among_map, contained}, Places.at_place}
 use Rattle.fault_model.specs.Reordered.{IsSourceAt}
-use Rattle.fault_model.proofs.Public.{IsSource, definition-signal}
-use Rattle.fault_model.proofs.Public.{source_definition}
-use Rattle.flat_circuit.specs.Readers.{Reads}
-use Rattle.flat_circuit.specs.SignalOrder.{HaveKeys, IsKeyOf}
-use Rattle.flat_circuit.proofs.Equations.{nothing}
-use Rattle.flat_circuit.proofs.LevelOrder.{order_within}
-use Rattle.flat_circuit.proofs.LevelsRise.{level_is}
-use Rattle.flat_circuit.proofs.Readers.{no_loop}
-use Rattle.flat_circuit.proofs.Stems.{behind}
+use Rattle.fault_model.proofs.Public.{IsSource, definition-signal, source_definition}
+use Rattle.flat_circuit.specs.{Readers.Reads, SignalOrder.{HaveKeys, IsKeyOf}}
+use Rattle.flat_circuit.proofs.{Equations.nothing, LevelOrder.order_within, LevelsRise.level_is}
+use Rattle.flat_circuit.proofs.{Readers.no_loop, Stems.behind}
 
 module _ (c : List Statement) (s : ℕ) (well : IsWellFormed c) where
   -- a gate that reads a signal has a line with its number among the pins
@@ -45,8 +36,7 @@ module _ (c : List Statement) (s : ℕ) (well : IsWellFormed c) where
       let n = is.0 in
       let number : signal c n ≡ s = signal-name_of c s n well.once is.1
       (contained (names c) n (at_place (names c) s n is.1)) in
-      go (definition c s)
-      (subst (λ k. IsSource (definition c k)) number
+      go (definition c s) (subst (λ k. IsSource (definition c k)) number
       (source_definition c n well (among (sources c) n is.2))) line
     where
       go : (o : Option Statement) → IsSource o → gate_line c o ≡ Some (kind, pins) → ⊥
@@ -134,8 +124,7 @@ module _ (c : List Statement) (well : IsWellFormed c) (order : List ℕ) (is : I
             let g = slice_index_or order j 0 in
             let old : slice_index_or after g 0 ≡ slice_index_or keys g 0 =
             get_or-set_other keys s g key 0 (apart j i before lt) in
-            subst (IsKeyOf c after g) (sym old) (kept keys s key g (slice_index_or keys g 0)
-            (λ r.
+            subst (IsKeyOf c after g) (sym old) (kept keys s key g (slice_index_or keys g 0) (λ r.
             let later = behind c well order is i j g lt (omega (arith, before, lt)) refl r in
             omega (arith, later, before)) (first j before))
         go (inr from) =

@@ -1,8 +1,7 @@
 -- What the operations on words do in a lane.
 use Rattle.std.proofs.Common.{◌≡◌, ◌<◌, ◌^◌, ◌-◌, ◌%◌, ℕ, zero, suc, ◌+◌, refl, Bool, true, false}
 use Rattle.std.proofs.Common.{not, ◌&&◌, ◌||◌, arith, inl, inr, ◌⊎◌, min, max}
-use Rattle.std.specs.Prelude.{◌==◌, bit_and, bit_or, bit_xor}
-use Rattle.std.specs.Int.{bit_at, bit_not, w128}
+use Rattle.std.specs.{Prelude.{◌==◌, bit_and, bit_or, bit_xor}, Int.{bit_at, bit_not, w128}}
 use Rattle.std.proofs.lemmas.Nat.Bits.{bit_at-lt, bit_at-zero, bit_at_and, bit_at_or, bit_at_xor}
 use Rattle.std.proofs.lemmas.Nat.Bits.{bit_at_ones, bit_at_not}
 use Rattle.flat_circuit.specs.Words.{lane}

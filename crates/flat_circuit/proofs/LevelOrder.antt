@@ -1,18 +1,13 @@
 -- The signals in level order: each once, and the pins of a gate before it.
-use Rattle.std.proofs.Common.{◌≡◌, ◌<◌, ◌≤◌, ℕ, zero, suc, ◌+◌, refl, sym, ◌∙◌, ap}
-use Rattle.std.proofs.Common.{List, [], ◌∷◌, length, arith, inl, inr, ◌⊎◌}
+use Rattle.std.proofs.Common.{◌≡◌, ◌<◌, ◌≤◌, ℕ, zero, suc, ◌+◌, refl, sym, ◌∙◌, ap, List, [], ◌∷◌}
+use Rattle.std.proofs.{Common.{length, arith, inl, inr, ◌⊎◌}, lemmas.List.Elements.Contains-get_or}
 use Rattle.std.specs.Prelude.{Contains, Some, map, slice_index_or}
-use Rattle.std.proofs.lemmas.List.Elements.{Contains-get_or}
-use Rattle.bench_net.specs.declared.Kind.{Kind}
-use Rattle.bench_net.specs.Statement.{Name, Statement, Gate}
-use Rattle.bench_net.specs.Scan.{names, signal, sources, inputs, cells}
-use Rattle.bench_net.specs.Circuit.{IsWellFormed}
+use Rattle.bench_net.specs.{declared.Kind.Kind, Statement.{Name, Statement, Gate}}
+use Rattle.bench_net.specs.{Scan.{names, signal, sources, inputs, cells}, Circuit.IsWellFormed}
 use Rattle.bench_net.specs.Level.{AreLevels, HasLevel, IsLevelOrder, GoesBefore, greatest}
-use Rattle.list_lemmas.proofs.Members.{Among, among, contained, among_left, among_right}
-use Rattle.list_lemmas.proofs.Members.{among_map}
 use Rattle.bench_net.proofs.Public.{name_of-signal, read_named}
-use Rattle.fault_model.proofs.Public.{Driven, driven, below_fold, defined_among}
-use Rattle.fault_model.proofs.Public.{Spans, span_within}
+use Rattle.list_lemmas.proofs.Members.{Among, among, contained, among_left, among_right, among_map}
+use Rattle.fault_model.proofs.Public.{Driven, driven, below_fold, defined_among, Spans, span_within}
 
 order_spans : (c : List Statement) (order : List ℕ) → IsLevelOrder c order
     → Spans (length (names c)) order
@@ -43,13 +38,11 @@ module _ (c : List Statement) (well : IsWellFormed c) where
           → f n ≡ g n
       go ih (inl x) =
           let at : Contains (sources c) n =
-          contained (sources c) n (among_left (inputs c) (map (λ cell. cell.0) (cells c)) n
-          x) in
+          contained (sources c) n (among_left (inputs c) (map (λ cell. cell.0) (cells c)) n x) in
           p.source n at ∙ sym (q.source n at)
       go ih (inr (inl x)) =
           let at : Contains (sources c) n =
-          contained (sources c) n (among_right (inputs c) (map (λ cell. cell.0) (cells c)) n
-          x) in
+          contained (sources c) n (among_right (inputs c) (map (λ cell. cell.0) (cells c)) n x) in
           p.source n at ∙ sym (q.source n at)
       go ih (inr (inr x)) =
           let at : Contains c (Gate n x.0 x.1) = contained c (Gate n x.0 x.1) x.2 in

@@ -1,11 +1,8 @@
 -- A gate has a higher level than the signals that it reads.
-use Rattle.std.proofs.Common.{◌≡◌, ◌<◌, ℕ, sym, ◌∙◌, ap, length, List}
+use Rattle.std.{proofs.Common.{◌≡◌, ◌<◌, ℕ, sym, ◌∙◌, ap, length, List}, specs.Option.option_map_or}
 use Rattle.std.specs.Prelude.{Contains, Option}
-use Rattle.std.specs.Option.{option_map_or}
-use Rattle.bench_net.specs.Statement.{Name, Statement}
-use Rattle.bench_net.specs.Scan.{names, name_of, signal}
-use Rattle.bench_net.specs.Circuit.{IsWellFormed}
-use Rattle.bench_net.specs.Level.{AreLevels, HasLevel}
+use Rattle.bench_net.specs.{Statement.{Name, Statement}, Scan.{names, name_of, signal}}
+use Rattle.bench_net.specs.{Circuit.IsWellFormed, Level.{AreLevels, HasLevel}}
 use Rattle.bench_net.proofs.Public.{name_of-signal}
 use Rattle.list_lemmas.proofs.Places.{at_place, within_place}
 use Rattle.flat_circuit.proofs.LevelOrder.{one_level}
@@ -22,8 +19,7 @@ level_named c level n s at number = ap (λ x. level_at c level x) (sym number)
 -- in each choice of levels a signal has its level
 pub level_is : (c : List Statement) (level : Name → ℕ) (g k : ℕ) → IsWellFormed c
     → AreLevels c level → HasLevel c g k → level_at c level g ≡ k
-level_is c level g k well are h =
-    ap (λ (o : Option Name). option_map_or level o 0) h.3
+level_is c level g k well are h = ap (λ (o : Option Name). option_map_or level o 0) h.3
     ∙ (one_level c well level h.0 h.1 are h.2 (at_place (names c) g h.1 h.3) ∙ h.4)
 
 -- a signal has its level by its number

@@ -4,22 +4,14 @@ use Rattle.std.proofs.Common.{false, List, length, set, arith, inl, inr, ◌⊎�
 use Rattle.std.specs.Prelude.{Some, slice_get, slice_index_or, IsTrue, ◌↔◌}
 use Rattle.std.proofs.lemmas.List.{get_or_default, get_or-set_same, get_or-set_other}
 use Rattle.std.proofs.lemmas.Bool.{cases_eq, false≢true}
-use Rattle.bench_net.specs.declared.Sink.{Sink}
+use Rattle.bench_net.specs.{declared.Sink.Sink, Statement.{Name, Statement}, Circuit.IsWellFormed}
+use Rattle.bench_net.specs.{Scan.{names, name_of, sinks}, Level.IsLevelOrder}
 use Rattle.bench_net.specs.declared.Sink.TheVariants as sink
-use Rattle.bench_net.specs.Statement.{Name, Statement}
-use Rattle.bench_net.specs.Scan.{names, name_of, sinks}
-use Rattle.bench_net.specs.Circuit.{IsWellFormed}
-use Rattle.bench_net.specs.Level.{IsLevelOrder}
-use Rattle.list_lemmas.proofs.Members.{Among}
-use Rattle.list_lemmas.proofs.Places.{placed, place_within, within_place}
-use Rattle.flat_circuit.specs.Readers.{Reads, IsLive, observed, through}
-use Rattle.flat_circuit.specs.Flat.{AreLive, IsLiveAt}
-use Rattle.flat_circuit.proofs.LevelOrder.{order_within}
-use Rattle.flat_circuit.proofs.ListPlaces.{index_of}
-use Rattle.flat_circuit.proofs.Readers.{read_sink, reader_within}
-use Rattle.flat_circuit.proofs.Stems.{behind}
+use Rattle.list_lemmas.proofs.{Members.Among, Places.{placed, place_within, within_place}}
+use Rattle.flat_circuit.specs.{Readers.{Reads, IsLive, observed, through}, Flat.{AreLive, IsLiveAt}}
+use Rattle.flat_circuit.proofs.{LevelOrder.order_within, ListPlaces.index_of, Stems.behind}
+use Rattle.flat_circuit.proofs.{Readers.{read_sink, reader_within}, ObservedSinks.sink_gate}
 use Rattle.flat_circuit.proofs.ObservedSinks.{HasObserver, at_end, observer_all, observer_found}
-use Rattle.flat_circuit.proofs.ObservedSinks.{sink_gate}
 
 -- ---- liveness of a signal, by its sinks
 -- each of the first sinks is a pin of a gate that is not live
@@ -113,8 +105,7 @@ module _ (c : List Statement) (well : IsWellFormed c) (order : List ℕ) (is : I
             → IsLiveAt c new (slice_index_or order i 0)
         go (inl same) = subst (IsLiveAt c new) (sym same)
             (subst (λ b. IsTrue b ↔ IsLive c (slice_index_or order (place - 1) 0))
-            (sym (get_or-set_same live (slice_index_or order (place - 1) 0) now false inner))
-            found)
+            (sym (get_or-set_same live (slice_index_or order (place - 1) 0) now false inner)) found)
         go (inr other) = subst (λ b. IsTrue b ↔ IsLive c (slice_index_or order i 0))
             (sym (get_or-set_other live (slice_index_or order (place - 1) 0)
             (slice_index_or order i 0) now false other))

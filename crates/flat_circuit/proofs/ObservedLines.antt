@@ -1,17 +1,13 @@
 -- The observers of the lines of a circuit, and the names that they observe.
-use Rattle.std.proofs.Common.{◌≡◌, ℕ, refl, ap, subst}
-use Rattle.std.proofs.Common.{List, [], ◌∷◌, map, inl, inr, ◌⊎◌}
-use Rattle.std.specs.Prelude.{Contains, Option, Some, None, slice_get}
-use Rattle.std.specs.Prelude.{option_map, flat_map}
+use Rattle.std.proofs.Common.{◌≡◌, ℕ, refl, ap, subst, List, [], ◌∷◌, map, inl, inr, ◌⊎◌}
+use Rattle.std.specs.Prelude.{Contains, Option, Some, None, slice_get, option_map, flat_map}
 use Rattle.std.specs.List.{enumerate_from}
-use Rattle.bench_net.specs.declared.Sink.{Sink}
-use Rattle.bench_net.specs.declared.Sink.TheVariants as sink
+use Rattle.bench_net.specs.{declared.Sink.Sink, Scan.{names, observers, outputs, cells}}
 use Rattle.bench_net.specs.Statement.{Name, Statement, Gate, Input, Output, Dff, read}
-use Rattle.bench_net.specs.Scan.{names, observers, outputs}
-use Rattle.bench_net.specs.Scan.{cells}
 use Rattle.bench_net.specs.Circuit.{IsWellFormed}
-use Rattle.list_lemmas.proofs.Members.{Among, contained, among_append, among_left}
-use Rattle.list_lemmas.proofs.Members.{among_right, among_map, mapped_from}
+use Rattle.bench_net.specs.declared.Sink.TheVariants as sink
+use Rattle.list_lemmas.proofs.Members.{Among, contained, among_append, among_left, among_right}
+use Rattle.list_lemmas.proofs.Members.{among_map, mapped_from}
 use Rattle.list_lemmas.proofs.Places.{among_numbered, numbered_at, at_place}
 use Rattle.fault_model.specs.declared.Line.TheVariants as line
 use Rattle.fault_model.specs.Detection.{name_on}
@@ -19,31 +15,29 @@ use Rattle.fault_model.specs.Detection.{name_on}
 -- an observer's line that carries a name is the branch of an observer of it
 pub output_observed : (c : List Statement) (i : ℕ) (n : Name) → name_on c (line.Out i) ≡ Some n
     → Contains (observers c) (sink.Out i, n)
-output_observed c i n e =
-    contained (observers c) (
-      sink.Out i,
-      n,
-    ) (among_left _ _ (
-      sink.Out i,
-      n,
-    ) (among_map (λ at. (sink.Out at.0, at.1)) (enumerate_from 0 (outputs c)) (
-      i,
-      n,
-    ) (among_numbered (outputs c) i n e)))
+output_observed c i n e = contained (observers c) (
+  sink.Out i,
+  n,
+) (among_left _ _ (
+  sink.Out i,
+  n,
+) (among_map (λ at. (sink.Out at.0, at.1)) (enumerate_from 0 (outputs c)) (
+  i,
+  n,
+) (among_numbered (outputs c) i n e)))
 
 pub cell_observed : (c : List Statement) (i : ℕ) (q n : Name) → slice_get (cells c) i ≡ Some (q, n)
     → Contains (observers c) (sink.Data i, n)
-cell_observed c i q n e =
-    contained (observers c) (
-      sink.Data i,
-      n,
-    ) (among_right _ _ (
-      sink.Data i,
-      n,
-    ) (among_map (λ at. (sink.Data at.0, at.1.1)) (enumerate_from 0 (cells c)) (
-      i,
-      (q, n),
-    ) (among_numbered (cells c) i (q, n) e)))
+cell_observed c i q n e = contained (observers c) (
+  sink.Data i,
+  n,
+) (among_right _ _ (
+  sink.Data i,
+  n,
+) (among_map (λ at. (sink.Data at.0, at.1.1)) (enumerate_from 0 (cells c)) (
+  i,
+  (q, n),
+) (among_numbered (cells c) i (q, n) e)))
 
 some_mapped : {X Y : Type 0} (h : X → Y) (o : Option X) (y : Y) → option_map h o ≡ Some y
     → (x : X) × (o ≡ Some x) × (h x ≡ y)
@@ -86,8 +80,7 @@ observed_named c o well a = well.all_defined o.1
         let p = mapped_from (λ at. (sink.Out at.0, at.1)) (enumerate_from 0 (outputs c)) o h in
         let it : (sink.Out p.0.0, p.0.1) ≡ o = p.2 in
         subst (λ (x : Sink × Name). Among x.1 (flat_map read c)) it
-        (output_read c p.0.1 (at_place (outputs c) p.0.0 p.0.1
-        (numbered_at (outputs c) p.0 p.1)))
+        (output_read c p.0.1 (at_place (outputs c) p.0.0 p.0.1 (numbered_at (outputs c) p.0 p.1)))
     go (inr h) =
         let p = mapped_from (λ at. (sink.Data at.0, at.1.1)) (enumerate_from 0 (cells c)) o h in
         let it : (sink.Data p.0.0, p.0.1.1) ≡ o = p.2 in

@@ -3,19 +3,15 @@ use Rattle.std.proofs.Common.{◌≡◌, ◌≢◌, ◌<◌, ◌≤◌, ℕ, ◌
 use Rattle.std.proofs.Common.{false, List, [], ◌∷◌, length, arith, inl, inr, ◌⊎◌}
 use Rattle.std.specs.Prelude.{Some, slice_get, slice_index_or, IsTrue, ◌↔◌}
 use Rattle.std.proofs.lemmas.Bool.{cases_eq, false≢true}
-use Rattle.bench_net.specs.declared.Sink.{Sink}
-use Rattle.bench_net.specs.declared.Sink.TheVariants as sink
+use Rattle.bench_net.specs.{declared.Sink.Sink, Scan.{names, signal, name_of, sinks, cells}}
 use Rattle.bench_net.specs.Statement.{Name, Statement, Input, Output, Gate, Dff}
-use Rattle.bench_net.specs.Scan.{names, signal, name_of, sinks, cells}
-use Rattle.bench_net.specs.Circuit.{IsWellFormed}
+use Rattle.bench_net.{specs.Circuit.IsWellFormed, proofs.Public.{name_of-signal, signal-name_of}}
+use Rattle.bench_net.specs.declared.Sink.TheVariants as sink
 use Rattle.list_lemmas.proofs.Members.{Among, contained}
-use Rattle.bench_net.proofs.Public.{name_of-signal, signal-name_of}
 use Rattle.list_lemmas.proofs.Places.{at_place, placed, place_within, within_place}
 use Rattle.fault_model.proofs.Public.{observes, data_reads, out_reads}
-use Rattle.flat_circuit.specs.Readers.{Reads, IsObserved}
-use Rattle.flat_circuit.proofs.ListPlaces.{index_of}
-use Rattle.flat_circuit.proofs.Readers.{sink_reads}
-use Rattle.flat_circuit.proofs.ObservedLines.{output_observed, cell_observed}
+use Rattle.flat_circuit.{specs.Readers.{Reads, IsObserved}, proofs.ListPlaces.index_of}
+use Rattle.flat_circuit.proofs.{Readers.sink_reads, ObservedLines.{output_observed, cell_observed}}
 
 cell_among : (c : List Statement) (q d : Name) → Among (Dff q d) c → Among (q, d) (cells c)
 cell_among [] q d a = absurd a
@@ -88,8 +84,7 @@ module _ (c : List Statement) (well : IsWellFormed c) (s : ℕ) (n : Name)
       go isnt j (inr same) = (
         gate,
         pin,
-        ap (slice_get items) same
-            ∙ listed i (sink.Pin gate pin) d lt e,
+        ap (slice_get items) same ∙ listed i (sink.Pin gate pin) d lt e,
       )
 
   observed_at : (k : Sink) → Among k (sinks c n) → ((gate pin : ℕ) → k ≢ sink.Pin gate pin)
@@ -124,8 +119,7 @@ module _ (c : List Statement) (well : IsWellFormed c) (s : ℕ) (n : Name)
           let is : Some o.0.1 ≡ Some n = sym (name_of-signal c o.0.1 w.named)
           ∙ (ap (name_of c) o.2 ∙ named) in
           let same : o.0.1 ≡ n = cc in
-          let there = placed items w.reader
-          (subst (Among w.reader) (sym are)
+          let there = placed items w.reader (subst (Among w.reader) (sym are)
           (subst (λ m. Among w.reader (sinks c m)) same w.among_sinks)) in
           let lt = place_within items there.0 w.reader there.1 in
           let pin = h.none refl there.0 (omega (arith, lt, le)) in

@@ -1,19 +1,14 @@
 -- A signal whose only sink is one pin of a gate is read only by this gate.
 use Rattle.std.proofs.Common.{◌≡◌, ℕ, refl, sym, ◌∙◌, ap, subst, List, [], ◌∷◌, inl, inr}
-use Rattle.std.specs.Prelude.{Contains, Option, Some, None}
-use Rattle.std.specs.Option.{option_map_or}
-use Rattle.bench_net.specs.declared.Sink.{Sink}
-use Rattle.bench_net.specs.declared.Sink.TheVariants as sink
-use Rattle.bench_net.specs.Statement.{Name, Statement, Gate}
-use Rattle.bench_net.specs.Scan.{names, name_of, signal, sinks}
-use Rattle.bench_net.specs.Circuit.{IsWellFormed}
-use Rattle.list_lemmas.proofs.Members.{Among, among, contained}
-use Rattle.list_lemmas.proofs.Places.{at_place, placed}
+use Rattle.std.specs.{Prelude.{Contains, Option, Some, None}, Option.option_map_or}
+use Rattle.bench_net.specs.{declared.Sink.Sink, Statement.{Name, Statement, Gate}}
+use Rattle.bench_net.specs.{Scan.{names, name_of, signal, sinks}, Circuit.IsWellFormed}
 use Rattle.bench_net.proofs.Public.{read_named, signal-name_of}
+use Rattle.bench_net.specs.declared.Sink.TheVariants as sink
+use Rattle.list_lemmas.proofs.{Members.{Among, among, contained}, Places.{at_place, placed}}
 use Rattle.fault_model.specs.Known.{only_gate}
 use Rattle.fault_model.proofs.Public.{observes, pin_among, pin_reads, signal_apart}
-use Rattle.flat_circuit.specs.Readers.{IsObserved, Reads}
-use Rattle.flat_circuit.specs.Regions.{IsReadBy, PinLaw}
+use Rattle.flat_circuit.specs.{Readers.{IsObserved, Reads}, Regions.{IsReadBy, PinLaw}}
 
 one_pin : (rs : List Sink) (gate : ℕ) → only_gate rs ≡ Some gate
     → (pin : ℕ) × (rs ≡ sink.Pin gate pin ∷ [])

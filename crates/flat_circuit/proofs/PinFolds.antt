@@ -1,11 +1,8 @@
 -- The folds over the bits of a gate's pins, bit by bit: all of them are 1, an odd number is.
-use Rattle.std.proofs.Common.{◌≡◌, ◌<◌, ℕ, ◌+◌, refl, sym, ◌∙◌, ap}
-use Rattle.std.proofs.Common.{Bool, true, false, not, ◌&&◌, List, [], ◌∷◌, ◌++◌, length, map, take}
-use Rattle.std.proofs.Common.{arith, inl, inr, ◌⊎◌}
-use Rattle.std.specs.Prelude.{slice_index_or}
-use Rattle.std.specs.List.{list_all}
-use Rattle.std.proofs.lemmas.List.{get_or-map, length-map, take_all, take_more}
-use Rattle.std.proofs.lemmas.List.Folds.{list_all_more}
+use Rattle.std.proofs.Common.{◌≡◌, ◌<◌, ℕ, ◌+◌, refl, sym, ◌∙◌, ap, Bool, true, false, not, ◌&&◌}
+use Rattle.std.proofs.Common.{List, [], ◌∷◌, ◌++◌, length, map, take, arith, inl, inr, ◌⊎◌}
+use Rattle.std.specs.{Prelude.slice_index_or, List.list_all}
+use Rattle.std.proofs.lemmas.List.{get_or-map, length-map, take_all, take_more, Folds.list_all_more}
 use Rattle.fault_model.specs.Solution.{is_odd}
 use Rattle.flat_circuit.proofs.Lanes.{unlike}
 
@@ -34,8 +31,7 @@ odd_one : (b : Bool) → is_odd (b ∷ []) ≡ b
 odd_one true = refl
 odd_one false = refl
 
-first_bit : (bits : List Bool) → 0 < length bits
-    → take 1 bits ≡ slice_index_or bits 0 false ∷ []
+first_bit : (bits : List Bool) → 0 < length bits → take 1 bits ≡ slice_index_or bits 0 false ∷ []
 first_bit [] lt = absurd (omega (arith, lt))
 first_bit (b ∷ bits) lt = refl
 
@@ -68,8 +64,7 @@ module _ (bits : List Bool) where
 
   only_odd : (i last : ℕ) → length bits ≡ last + 1 → last ≡ 0 → i ≡ 1
       → is_odd (take i bits) ≡ is_odd bits
-  only_odd i last count none one =
-      ap is_odd (take_all i bits (omega (arith, count, none, one)))
+  only_odd i last count none one = ap is_odd (take_all i bits (omega (arith, count, none, one)))
 
   last_odd : (i last : ℕ) → length bits ≡ last + 1 → i ≡ last
       → unlike (is_odd (take i bits)) (slice_index_or bits last false) ≡ is_odd bits
@@ -97,16 +92,14 @@ module _ (g : ℕ → Bool) (pins : List ℕ) where
 
     pub all_more : (i : ℕ) (all word : Bool) → i < length pins → all ≡ list_all p (take i bits)
         → word ≡ p (g (slice_index_or pins i 0)) → (all && word) ≡ list_all p (take (i + 1) bits)
-    all_more i all word lt before is =
-        ap (λ b. b && word) before
+    all_more i all word lt before is = ap (λ b. b && word) before
         ∙ (ap (λ b. list_all p (take i bits) && b) (is ∙ ap p (sym (at i lt)))
         ∙ sym (list_all_more p bits i false (omega (arith, lt, many))))
 
     pub all_last : (i last end : ℕ) (all word : Bool) → length pins ≡ last + 1
         → (i ≡ last) ⊎ ((i ≡ 1) × (last ≡ 0)) → all ≡ list_all p (take i bits)
         → slice_index_or pins last 0 ≡ end → word ≡ p (g end) → (all && word) ≡ list_all p bits
-    all_last i last end all word count stop before here is =
-        ap (λ b. b && word) before
+    all_last i last end all word count stop before here is = ap (λ b. b && word) before
         ∙ (ap (λ b. list_all p (take i bits) && b)
         (is ∙ ap p (sym (at last (omega (arith, count)) ∙ ap g here)))
         ∙ last_all p bits i last (many ∙ count) stop)
@@ -117,8 +110,7 @@ module _ (g : ℕ → Bool) (pins : List ℕ) where
 
   pub odd_more : (i : ℕ) (odd word : Bool) → i < length pins → odd ≡ is_odd (take i bits)
       → word ≡ g (slice_index_or pins i 0) → unlike odd word ≡ is_odd (take (i + 1) bits)
-  odd_more i odd word lt before is =
-      ap (λ b. unlike b word) before
+  odd_more i odd word lt before is = ap (λ b. unlike b word) before
       ∙ (ap (unlike (is_odd (take i bits))) (is ∙ sym (at i lt))
       ∙ sym (more_odd bits i (omega (arith, lt, many))))
 
@@ -129,8 +121,6 @@ module _ (g : ℕ → Bool) (pins : List ℕ) where
   pub odd_last : (i last end : ℕ) (odd word : Bool) → length pins ≡ last + 1 → i ≡ last
       → odd ≡ is_odd (take i bits) → slice_index_or pins last 0 ≡ end → word ≡ g end
       → unlike odd word ≡ is_odd bits
-  odd_last i last end odd word count e before here is =
-      ap (λ b. unlike b word) before
-      ∙ (ap (unlike (is_odd (take i bits)))
-      (is ∙ sym (at last (omega (arith, count)) ∙ ap g here))
+  odd_last i last end odd word count e before here is = ap (λ b. unlike b word) before
+      ∙ (ap (unlike (is_odd (take i bits))) (is ∙ sym (at last (omega (arith, count)) ∙ ap g here))
       ∙ last_odd bits i last (many ∙ count) e)

@@ -3,14 +3,10 @@ use Rattle.std.proofs.Common.{◌≡◌, ◌<◌, ◌+◌, ℕ, refl, sym, ◌�
 use Rattle.std.proofs.Common.{get_or-set_other, get_or-set_same, below_more, ◌≢◌}
 use Rattle.std.specs.Prelude.{slice_index_or}
 use Rattle.std.proofs.lemmas.Option.{slice_get-get_or, get_or_from_slice_get}
-use Rattle.bench_net.specs.Statement.{Statement}
-use Rattle.bench_net.specs.Circuit.{IsWellFormed}
-use Rattle.list_lemmas.proofs.Members.{among}
-use Rattle.list_lemmas.proofs.Places.{placed, place_within}
-use Rattle.fault_model.specs.Reordered.{place, in_order}
-use Rattle.fault_model.proofs.Public.{in_signal_order}
-use Rattle.flat_circuit.specs.Arranged.{ArePlaces, IsFlowOrder}
-use Rattle.flat_circuit.proofs.FlowOrder.{flow_within}
+use Rattle.bench_net.specs.{Statement.Statement, Circuit.IsWellFormed}
+use Rattle.list_lemmas.proofs.{Members.among, Places.{placed, place_within}}
+use Rattle.fault_model.{specs.Reordered.{place, in_order}, proofs.Public.in_signal_order}
+use Rattle.flat_circuit.{specs.Arranged.{ArePlaces, IsFlowOrder}, proofs.FlowOrder.flow_within}
 
 -- the table has the first places of an order
 abbrev pub HasPlaces : List ℕ → List ℕ → ℕ → Type 0
@@ -48,8 +44,7 @@ module _ (c : List Statement) (well : IsWellFormed c) (order : List ℕ) (is : I
             let low = flow_within c order i is lt in
             let count = is.signals.count in
             let within : slice_index_or order i 0 < length places = omega (arith, low, count, room)
-            in
-            rw get_or-set_same refl
+            in rw get_or-set_same refl
 
     pub all_places : (places : List ℕ) → HasPlaces order places (length order)
         → ArePlaces c (in_order c order) places

@@ -2,13 +2,12 @@
 use Rattle.std.proofs.Common.{◌≡◌, ◌<◌, ℕ, refl, sym, ◌∙◌, ap, subst, List, length, arith}
 use Rattle.std.specs.Prelude.{Option, Some, unwrap_or}
 use Rattle.bench_net.specs.declared.Sink.TheVariants as sink
-use Rattle.bench_net.specs.Statement.{Name, Statement, Gate}
-use Rattle.bench_net.specs.Scan.{names, signal, name_of, sinks}
+use Rattle.bench_net.specs.{Statement.{Name, Statement, Gate}, Scan.{names, signal, name_of, sinks}}
 use Rattle.bench_net.specs.Circuit.{IsWellFormed}
-use Rattle.list_lemmas.proofs.Members.{Among, among, contained}
 use Rattle.bench_net.proofs.Public.{name_of-signal, signal-name_of, read_named}
-use Rattle.fault_model.proofs.Public.{defined_among, signal_apart, pin_among, pin_reads}
+use Rattle.list_lemmas.proofs.Members.{Among, among, contained}
 use Rattle.list_lemmas.proofs.Places.{at_place, placed, place_within}
+use Rattle.fault_model.proofs.Public.{defined_among, signal_apart, pin_among, pin_reads}
 use Rattle.flat_circuit.specs.Readers.{Reads}
 
 module _ (c : List Statement) (well : IsWellFormed c) (s : ℕ) (n : Name)

@@ -1,19 +1,15 @@
 -- Statements in another order: the same readers.
 use Rattle.std.proofs.Common.{◌≡◌, ℕ, refl, sym, ◌∙◌, ap, subst, List}
 use Rattle.std.specs.Prelude.{Contains, option_map}
-use Rattle.bench_net.specs.Statement.{Statement, Gate}
-use Rattle.bench_net.specs.Scan.{names, signal, observers}
-use Rattle.bench_net.specs.Circuit.{IsWellFormed}
+use Rattle.bench_net.specs.{Statement.{Statement, Gate}, Scan.{names, signal, observers}}
+use Rattle.bench_net.{specs.Circuit.IsWellFormed, proofs.Public.read_named}
 use Rattle.list_lemmas.proofs.Members.{among, contained}
-use Rattle.bench_net.proofs.Public.{read_named}
 use Rattle.fault_model.specs.declared.Line.TheVariants as line
-use Rattle.fault_model.specs.Reordered.{IsReordered, place, HasSameSignals}
-use Rattle.fault_model.specs.Reordered.{HasSameSinks}
+use Rattle.fault_model.specs.Reordered.{IsReordered, place, HasSameSignals, HasSameSinks}
 use Rattle.fault_model.proofs.Public.{same_signals, same_sinks, stands_there, stands_back}
 use Rattle.fault_model.proofs.Public.{defined_among, observes}
 use Rattle.flat_circuit.specs.Readers.{Reads, IsObserved, IsLive, observed, through}
-use Rattle.flat_circuit.specs.Regions.{lone_reader}
-use Rattle.flat_circuit.specs.Reordered.{HasSameReaders}
+use Rattle.flat_circuit.specs.{Regions.lone_reader, Reordered.HasSameReaders}
 
 module _ (c d : List Statement) (well : IsWellFormed c) (is : IsReordered c d) where
   signals : HasSameSignals c d
@@ -57,8 +53,7 @@ module _ (c d : List Statement) (well : IsWellFormed c) (is : IsReordered c d) w
     of = refl;
   }
 
-  pub reads_back : (g s : ℕ) → Reads d g (place c d s)
-      → (h : ℕ) × (g ≡ place c d h) × Reads c h s
+  pub reads_back : (g s : ℕ) → Reads d g (place c d s) → (h : ℕ) × (g ≡ place c d h) × Reads c h s
   unfolding reads_here
   reads_back g s r =
       let own = reads_here g (place c d s) r in

@@ -4,16 +4,13 @@ use Rattle.std.proofs.Common.{◌≡◌, ◌<◌, ℕ, zero, suc, refl, sym, ◌
 use Rattle.std.proofs.Common.{◌∷◌, ◌++◌, ◌⊎◌, inl, inr, length}
 use Rattle.std.specs.Prelude.{Contains, Option, Some, None, IfSome, map, slice_get, unwrap_or}
 use Rattle.bench_net.specs.Statement.{Statement}
-use Rattle.list_lemmas.proofs.Members.{contained}
-use Rattle.list_lemmas.proofs.Places.{at_place, place_within}
-use Rattle.fault_model.specs.declared.Line.{Line}
-use Rattle.fault_model.specs.declared.Model.{Model}
+use Rattle.list_lemmas.proofs.{Members.contained, Places.{at_place, place_within}}
+use Rattle.fault_model.specs.declared.{Line.Line, Model.Model}
 use Rattle.fault_model.specs.Fault.{Fault, FaultList, fault_list, faults}
 use Rattle.fault_model.specs.Collapse.{Collapsed, AreClassesOf, representatives}
 use Rattle.fault_model.proofs.Public.{listed_model}
-use Rattle.flat_circuit.specs.declared.words.Stuck.{Stuck}
+use Rattle.flat_circuit.{specs.declared.words.Stuck.Stuck, proofs.Rows.pushed_get}
 use Rattle.flat_circuit.specs.Origins.{HaveRepresentatives, IsRepresentativeIn}
-use Rattle.flat_circuit.proofs.Rows.{pushed_get}
 
 -- if each element of one list is found at its place in another, the element at a place is found
 found_at : {X : Type 0} (find : ℕ → Option X) (xs : List ℕ) (ys : List X) (i k : ℕ)
@@ -58,8 +55,7 @@ fault_read m o l bit r e of p q =
 -- the fault that they make is the representative, and it is in the list
 pub fault_is : (m : Model) (c : List Statement) (list : FaultList) (classes : Collapsed)
     (class k : ℕ) (own : Model) (l : Line) (bit : Bool) → AreClassesOf m c classes
-    → list ≡ fault_list m c
-    → slice_get classes.representative class ≡ Some k → own ≡ m
+    → list ≡ fault_list m c → slice_get classes.representative class ≡ Some k → own ≡ m
     → IfSome (slice_get list.list k) (λ f. l ≡ f.line)
     → IfSome (slice_get list.list k) (λ f. bit ≡ f.stuck)
     → (slice_get (representatives m c) class ≡ Some (record { model = own; line = l; stuck = bit }))
@@ -93,5 +89,4 @@ representatives_more m c stucks stuck class count before is k own at =
     go (inl h) = before k own h
     go (inr h) =
         let same : class ≡ k = sym count ∙ sym h.0 in
-        subst (λ n. IsRepresentativeIn m c n own) same
-        (subst (IsRepresentativeIn m c class) h.1 is)
+        subst (λ n. IsRepresentativeIn m c n own) same (subst (IsRepresentativeIn m c class) h.1 is)

@@ -1,16 +1,12 @@
 -- Rows of words, one for each group.
 use Rattle.std.proofs.Common.{◌≡◌, ◌<◌, ℕ, zero, suc, refl, sym, ◌∙◌, ap, subst, List, [], ◌∷◌}
-use Rattle.std.proofs.Common.{◌++◌, length, arith, inl, inr, ◌⊎◌}
-use Rattle.std.proofs.Common.{◌+◌, ◌≤◌, length-append}
+use Rattle.std.proofs.Common.{◌++◌, length, arith, inl, inr, ◌⊎◌, ◌+◌, ◌≤◌, length-append}
 use Rattle.std.specs.Prelude.{All, Some, None, map, slice_get, slice_index_or, unwrap_or}
-use Rattle.std.proofs.lemmas.List.{length_push}
-use Rattle.std.proofs.lemmas.Option.{get_or_from_slice_get}
-use Rattle.bench_net.specs.Statement.{Statement}
-use Rattle.bench_net.specs.Scan.{names}
+use Rattle.std.proofs.lemmas.{List.length_push, Option.get_or_from_slice_get}
+use Rattle.bench_net.specs.{Statement.Statement, Scan.names}
 use Rattle.fault_model.specs.Solution.{Test}
 use Rattle.list_lemmas.proofs.Places.{place_within}
-use Rattle.flat_circuit.specs.GroupRows.{AreRowsFrom, AreFaultFree}
-use Rattle.flat_circuit.specs.BlockSpans.{groups}
+use Rattle.flat_circuit.specs.{GroupRows.{AreRowsFrom, AreFaultFree}, BlockSpans.groups}
 use Rattle.flat_circuit.specs.Words.{AreWords}
 
 pub mapped_get : {X : Type 0} (h : X → List ℕ) (xs : List X) (i : ℕ) (x : X) → i < length xs

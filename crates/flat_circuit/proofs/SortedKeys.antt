@@ -1,13 +1,10 @@
 -- Signals in the order of their keys stand in a topological order.
 use Rattle.std.proofs.Common.{◌≡◌, ◌<◌, inl, inr, ℕ, List, length, arith, ◌∙◌}
 use Rattle.std.specs.Prelude.{slice_index_or}
-use Rattle.bench_net.specs.Statement.{Statement}
-use Rattle.bench_net.specs.Scan.{names}
+use Rattle.bench_net.specs.{Statement.Statement, Scan.names}
 use Rattle.counting_sort.specs.SortedPlaces.{AreSortedPlaces, GoesFirst}
 use Rattle.fault_model.specs.Reordered.{IsSourceAt}
-use Rattle.flat_circuit.specs.Arranged.{IsFlowOrder}
-use Rattle.flat_circuit.specs.Readers.{Reads}
-use Rattle.flat_circuit.specs.SignalOrder.{HaveKeys}
+use Rattle.flat_circuit.specs.{Arranged.IsFlowOrder, Readers.Reads, SignalOrder.HaveKeys}
 
 module _ (c : List Statement) (keys order : List ℕ)
     (room : length keys ≡ length (names c)) (have : HaveKeys c keys)

@@ -1,37 +1,27 @@
 -- Stems: each signal and each class has one, and a table of them.
 use Rattle.std.proofs.Common.{◌≡◌, ◌≢◌, ◌<◌, ◌≤◌, ◌+◌, ◌-◌, ℕ, zero, suc, refl, sym, ◌∙◌, ap, subst}
 use Rattle.std.proofs.Common.{List, [], ◌∷◌, ◌++◌, length, set, arith, inl, inr, ◌⊎◌}
-use Rattle.std.specs.Option.{option_map_or}
+use Rattle.std.specs.{Option.option_map_or, Prelude.slice_index_or}
 use Rattle.std.specs.Prelude.{Contains, Option, Some, None, IfSome, map, option_map, slice_get}
-use Rattle.std.specs.Prelude.{slice_index_or}
 use Rattle.std.proofs.lemmas.Bool.{cases_eq, cases_order}
 use Rattle.std.proofs.lemmas.List.{get_or_default, get_or-set_same, get_or-set_other}
-use Rattle.bench_net.specs.Statement.{Name, Statement}
-use Rattle.bench_net.specs.Scan.{names, signal, name_of}
-use Rattle.bench_net.specs.Circuit.{IsWellFormed}
-use Rattle.bench_net.specs.Level.{GoesBefore, IsLevelOrder, greatest}
+use Rattle.bench_net.specs.{Statement.{Name, Statement}, Scan.{names, signal, name_of}}
+use Rattle.bench_net.specs.{Circuit.IsWellFormed, Level.{GoesBefore, IsLevelOrder, greatest}}
 use Rattle.bench_net.proofs.Public.{name_of-signal, read_named}
 use Rattle.list_lemmas.proofs.Members.{among, among_map, contained, filtered_from}
 use Rattle.list_lemmas.proofs.Places.{at_place, place_within, within_place}
-use Rattle.fault_model.specs.declared.Line.{Line}
-use Rattle.fault_model.specs.declared.Line.TheVariants as line
-use Rattle.fault_model.specs.declared.Model.{Model}
+use Rattle.fault_model.specs.{declared.Line.Line, declared.Model.Model, Detection.name_on}
 use Rattle.fault_model.specs.Fault.{Fault, FaultList, fault_list, faults}
 use Rattle.fault_model.specs.Collapse.{AreClassesOf, Collapsed, representatives}
-use Rattle.fault_model.specs.Detection.{name_on}
 use Rattle.fault_model.proofs.Public.{below_greatest, carries, defined_among}
-use Rattle.flat_circuit.specs.Readers.{Reads}
+use Rattle.fault_model.specs.declared.Line.TheVariants as line
+use Rattle.flat_circuit.{specs.Readers.Reads, specs.Regions.way_from, proofs.OnePin.pin_law}
 use Rattle.flat_circuit.specs.Regions.{HasStem, HaveStems, IsStem, IsStemOf, IsStemOfClass, LeadLaw}
 use Rattle.flat_circuit.specs.Regions.{LeadsTo, OneClassStemLaw, OneStemLaw, RunsTo}
 use Rattle.flat_circuit.specs.Regions.{SomeClassStemLaw, SomeStemLaw, here, lone_reader, onward}
-use Rattle.flat_circuit.specs.Regions.{way_from}
-use Rattle.flat_circuit.proofs.CarriedSignals.{gate_within}
-use Rattle.flat_circuit.proofs.LevelOrder.{not_before, order_within}
-use Rattle.flat_circuit.proofs.OnePin.{pin_law}
-use Rattle.flat_circuit.proofs.Readers.{no_loop, reader_within}
-use Rattle.flat_circuit.proofs.Representatives.{representative_at}
-use Rattle.flat_circuit.proofs.LevelsRise.{level_at, level_named}
-use Rattle.flat_circuit.proofs.Rows.{pushed_get}
+use Rattle.flat_circuit.proofs.{CarriedSignals.gate_within, LevelOrder.{not_before, order_within}}
+use Rattle.flat_circuit.proofs.{Readers.{no_loop, reader_within}, Representatives.representative_at}
+use Rattle.flat_circuit.proofs.{LevelsRise.{level_at, level_named}, Rows.pushed_get}
 
 -- ---- one stem
 stays : (c : List Statement) {s r : ℕ} → IsStem c s → LeadsTo c s r → s ≡ r
@@ -100,8 +90,7 @@ module _ (c : List Statement) (well : IsWellFormed c) where
           omega (arith, le, is)
   some_from (suc fuel) s lt few = go (lone_reader c s) refl (some_from fuel)
     where
-      go : (o : Option ℕ) → lone_reader c s ≡ o
-          → ((g : ℕ) → g < length (names c)
+      go : (o : Option ℕ) → lone_reader c s ≡ o → ((g : ℕ) → g < length (names c)
           → greatest (map well.acyclic.0 (names c)) < number g + fuel
           → (r : ℕ) × (r < length (names c)) × IsStemOf c r g)
           → (r : ℕ) × (r < length (names c)) × IsStemOf c r s
@@ -228,8 +217,7 @@ module _ (c : List Statement) (well : IsWellFormed c) (order : List ℕ) (is : I
 -- ---- the stems of classes
 module _ (m : Model) (c : List Statement) (well : IsWellFormed c) (list : FaultList)
     (classes : Collapsed) (class k : ℕ) (l : Line) (are : AreClassesOf m c classes)
-    (same : list ≡ fault_list m c)
-    (at : slice_get classes.representative class ≡ Some k)
+    (same : list ≡ fault_list m c) (at : slice_get classes.representative class ≡ Some k)
     (on : IfSome (slice_get list.list k) (λ f. l ≡ f.line)) where
   found : (r : Fault) × (slice_get (faults m c) k ≡ Some r)
       × (slice_get (representatives m c) class ≡ Some r)

@@ -1,15 +1,12 @@
 -- One evaluation, in the steps of the code.
 use Rattle.std.proofs.Common.{◌≡◌, ◌≢◌, ◌<◌, ◌≤◌, ℕ, ◌+◌, ◌^◌, refl, sym, ◌∙◌, ap, Bool, true}
-use Rattle.std.proofs.Common.{false, ◌&&◌, List, set, arith, inl, inr, ◌⊎◌}
+use Rattle.std.{proofs.Common.{false, ◌&&◌, List, set, arith, inl, inr, ◌⊎◌}, specs.Bool.Decides}
 use Rattle.std.specs.Prelude.{slice_index_or, bit_and, bit_xor, nat_lt, ◌==◌}
-use Rattle.std.proofs.lemmas.List.{set-set, set-get_or}
+use Rattle.std.proofs.lemmas.{List.{set-set, set-get_or}, Nat.Bits.bit_at-trailing_zeros}
 use Rattle.std.proofs.lemmas.Bool.{cases_eq, cases_lt, false≢true, le-ltb, lt-ltb}
-use Rattle.flat_circuit.specs.Words.{lane}
-use Rattle.std.proofs.lemmas.Nat.Bits.{bit_at-trailing_zeros}
-use Rattle.std.specs.Bool.{Decides}
 use Rattle.std.specs.Int.{w128, trailing_zeros}
+use Rattle.flat_circuit.{specs.Words.lane, proofs.Lanes.{lane_and, lane_xor, lane_zero, unlike}}
 use lib.Count.{trailing_of_zero}
-use Rattle.flat_circuit.proofs.Lanes.{lane_and, lane_xor, lane_zero, unlike}
 
 -- a gate that was taken, and did not wait any more
 pub restored : (at : List ℕ) (g level : ℕ) → slice_index_or at g 0 ≡ 0
@@ -29,8 +26,7 @@ pub no_change : (word good lanes k : ℕ) → bit_and (bit_xor word good) lanes 
     → lane lanes k ≡ true → lane good k ≡ lane word k
 no_change word good lanes k e in_lanes = equal (lane word k) (lane good k) (lane lanes k)
     (ap (λ b. b && lane lanes k) (sym (lane_xor word good k))
-    ∙ (sym (lane_and (bit_xor word good) lanes k) ∙ (ap (λ d. lane d k) e ∙ lane_zero k)))
-    in_lanes
+    ∙ (sym (lane_and (bit_xor word good) lanes k) ∙ (ap (λ d. lane d k) e ∙ lane_zero k))) in_lanes
 
 pub left_of : (a b : Bool) → (a && b) ≡ true → a ≡ true
 left_of true b e = refl
@@ -53,8 +49,7 @@ turned a b false h = absurd (false≢true h)
 -- complemented in the lanes in which it differs, it is the word
 pub changed_to : (word good lanes k : ℕ) → lane lanes k ≡ true
     → lane (bit_xor good (bit_and (bit_xor word good) lanes)) k ≡ lane word k
-changed_to word good lanes k in_lanes =
-    lane_xor good (bit_and (bit_xor word good) lanes) k
+changed_to word good lanes k in_lanes = lane_xor good (bit_and (bit_xor word good) lanes) k
     ∙ (ap (unlike (lane good k)) (lane_and (bit_xor word good) lanes k
     ∙ ap (λ b. b && lane lanes k) (lane_xor word good k))
     ∙ turned (lane word k) (lane good k) (lane lanes k) in_lanes)
@@ -68,8 +63,7 @@ some_lane word within ne = let found = bit_at-trailing_zeros w128 word (omega (a
 -- first lane
 pub left_out : (lanes seen low k : ℕ) → seen < 2 ^ 128 → k < 128
     → ((j : ℕ) → j < 128 → lane low j ≡ nat_lt j (trailing_zeros w128 seen)) → lane lanes k ≡ true
-    → lane (bit_and lanes low) k ≡ false
-    → (j : ℕ) × (j ≤ k) × (lane seen j ≡ true)
+    → lane (bit_and lanes low) k ≡ false → (j : ℕ) × (j ≤ k) × (lane seen j ≡ true)
 left_out lanes seen low k within lt is in_lanes out = go (cases_lt k (trailing_zeros w128 seen))
     (cases_eq seen 0)
   where

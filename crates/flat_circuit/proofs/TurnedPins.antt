@@ -1,8 +1,7 @@
 -- The bits of a gate's pins if one signal is complemented in some lanes, and no other differs.
 use Rattle.std.proofs.Common.{◌≡◌, ◌≢◌, ◌<◌, ◌+◌, ◌∙◌, ◌⊎◌, ◌∷◌, [], ℕ, List, ap, inl, inr, length}
-use Rattle.std.proofs.Common.{refl, set, sym}
+use Rattle.std.{proofs.Common.{refl, set, sym}, specs.List.enumerate_from}
 use Rattle.std.specs.Prelude.{◌==◌, All, None, bit_xor, map, slice_index_or}
-use Rattle.std.specs.List.{enumerate_from}
 use Rattle.std.proofs.lemmas.Bool.{cases_eq, cond-false, cond-true, eq-eqb, ne_eqb}
 use Rattle.std.proofs.lemmas.List.{get_or-set_other, get_or-set_same}
 use Rattle.event_queue.proofs.Public.{index_zero}
@@ -40,8 +39,7 @@ module _ (good before : List ℕ) (s diff k : ℕ) (clear : All (λ x. x ≡ 0) 
       ≡ pin_bits None gate pins good (set before s diff) k
   turned_pins gate pins = go 0 pins
     where
-      go : (from : ℕ) (rest : List ℕ)
-          → map (λ x. lane (turned_word good s diff x) k) rest
+      go : (from : ℕ) (rest : List ℕ) → map (λ x. lane (turned_word good s diff x) k) rest
           ≡ map (λ at. under None (line.Pin gate at.0)
           (lane (word_over good (set before s diff) at.1) k)) (enumerate_from from rest)
       go from [] = refl

@@ -1,26 +1,21 @@
 -- From words to solutions: words that satisfy the equation of each signal are, in each lane, a
 -- solution.
 use Rattle.std.proofs.Common.{◌≡◌, ◌≢◌, ◌<◌, ℕ, ◌+◌, refl, sym, ◌∙◌, ap, subst, Bool, true, false}
-use Rattle.std.proofs.Common.{List, [], ◌∷◌, length, inl, inr, ◌⊎◌}
+use Rattle.std.{proofs.Common.{List, [], ◌∷◌, length, inl, inr, ◌⊎◌}, specs.List.enumerate_from}
 use Rattle.std.specs.Prelude.{Option, Some, map, set, slice_index_or, bit_xor}
-use Rattle.std.specs.List.{enumerate_from}
-use Rattle.std.proofs.lemmas.List.{get_or-set_same, get_or-set_other}
-use Rattle.std.proofs.lemmas.Bool.{cases_eq}
-use Rattle.bench_net.specs.declared.Kind.{Kind}
-use Rattle.bench_net.specs.Statement.{Name, Statement, Gate}
+use Rattle.std.proofs.lemmas.{List.{get_or-set_same, get_or-set_other}, Bool.cases_eq}
+use Rattle.bench_net.specs.{declared.Kind.Kind, Statement.{Name, Statement, Gate}}
 use Rattle.bench_net.specs.Scan.{names, signal, name_of, inputs, cells, sources}
 use Rattle.bench_net.specs.Circuit.{IsWellFormed}
-use Rattle.list_lemmas.proofs.Members.{Among, among, contained, among_left, among_right}
 use Rattle.bench_net.proofs.Public.{name_of-signal, signal-name_of, read_named}
+use Rattle.list_lemmas.proofs.Members.{Among, among, contained, among_left, among_right}
 use Rattle.list_lemmas.proofs.Places.{at_place, placed, place_within}
 use Rattle.fault_model.specs.declared.Line.TheVariants as line
-use Rattle.fault_model.specs.Fault.{Fault}
-use Rattle.fault_model.specs.Solution.{Test, Solves, value, under, sees, pins_see}
+use Rattle.fault_model.specs.{Fault.Fault, Solution.{Test, Solves, value, under, sees, pins_see}}
 use Rattle.fault_model.proofs.Public.{Driven, driven, pins_agree, solution, solution_solves}
 use Rattle.fault_model.proofs.Public.{defined_among, source_named}
 use Rattle.flat_circuit.specs.Words.{lane, lane_bits, word_over, test_of, AreWords, IsSignalWord}
-use Rattle.flat_circuit.specs.Words.{pin_bits}
-use Rattle.flat_circuit.proofs.Lanes.{lane_xor, lane_zero, unlike}
+use Rattle.flat_circuit.{specs.Words.pin_bits, proofs.Lanes.{lane_xor, lane_zero, unlike}}
 
 -- if the words do not differ, an overlaid word is the word
 pub lane_same : (word k d : ℕ) → d ≡ 0 → lane (bit_xor word d) k ≡ lane word k
@@ -38,12 +33,11 @@ pins_from : (c : List Statement) (f : Option Fault) (words delta : List ℕ) (ga
     (enumerate_from from (map (signal c) args))
     ≡ map (λ at. sees f (lane_bits c words k) (line.Pin gate at.0) at.1) (enumerate_from from args)
 pins_from c f words delta gate k from [] clear = refl
-pins_from c f words delta gate k from (a ∷ args) clear =
-    rw (
-      lane_same (slice_index_or words (signal c a) 0) k (slice_index_or delta (signal c a) 0)
-          (clear (signal c a)),
-      pins_from c f words delta gate k (from + 1) args clear,
-    ) refl
+pins_from c f words delta gate k from (a ∷ args) clear = rw (
+  lane_same (slice_index_or words (signal c a) 0) k (slice_index_or delta (signal c a) 0)
+      (clear (signal c a)),
+  pins_from c f words delta gate k (from + 1) args clear,
+) refl
 
 pub pins_named : (c : List Statement) (f : Option Fault) (words delta : List ℕ) (gate k : ℕ)
     (args : List Name) → ((s : ℕ) → slice_index_or delta s 0 ≡ 0)
@@ -59,8 +53,7 @@ solves_like c t f v w well same known = record {
   source = λ i n at. same n (source_named c n (at_place (sources c) i n at)) ∙ known.source i n at;
   gate = λ n kind args at.
       same n (defined_among c (Gate n kind args) n (among c (Gate n kind args) at) refl)
-      ∙ (known.gate n kind args at
-      ∙ ap (λ bits. under f (line.Stem (signal c n)) (value kind bits))
+      ∙ (known.gate n kind args at ∙ ap (λ bits. under f (line.Stem (signal c n)) (value kind bits))
       (pins_agree f w v (signal c n) 0 args
       (λ m h. sym (same m (among (names c) m (read_named c (Gate n kind args) m well
       (among c (Gate n kind args) at) h))))));
@@ -77,8 +70,7 @@ module _ (c : List Statement) (tests : List Test) (group : ℕ) (f : Option Faul
   pub right_by_equation : (words : List ℕ) (s word : ℕ) → IsWellFormed c
       → IsSignalWord c tests group f words s word
       → ((n a : Name) (kind : Kind) (args : List Name) → signal c n ≡ s → Among (Gate n kind args) c
-      → Among a args → IsRight (signal c a) (slice_index_or words (signal c a) 0))
-      → IsRight s word
+      → Among a args → IsRight (signal c a) (slice_index_or words (signal c a) 0)) → IsRight s word
   right_by_equation words s word well equation pins n k v named lt solves =
       go (driven c n (at_place (names c) s n named))
     where
@@ -92,8 +84,7 @@ module _ (c : List Statement) (tests : List Test) (group : ℕ) (f : Option Faul
           equation.source at.0 n k lt named at.1 ∙ sym (rw (← number) (solves.source at.0 n at.1))
 
       by_gate : (kind : Kind) (args : List Name) → Among (Gate n kind args) c → lane word k ≡ v n
-      by_gate kind args a =
-          equation.gate n kind args k lt number (contained c (Gate n kind args) a)
+      by_gate kind args a = equation.gate n kind args k lt number (contained c (Gate n kind args) a)
           ∙ (ap (λ bits. under f (line.Stem s) (value kind bits))
           (pins_agree f (lane_bits c words k) v s 0 args same)
           ∙ sym (rw (← number) (solves.gate n kind args (contained c (Gate n kind args) a))))

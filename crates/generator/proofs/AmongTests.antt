@@ -1,12 +1,10 @@
 -- Tests that are among others, and tests that are allowed.
 use Rattle.std.proofs.Common.{◌≡◌, ◌∙◌, ◌⊎◌, ◌++◌, inl, inr, ℕ, Bool, true, false, List, [], ◌∷◌}
-use Rattle.std.proofs.Common.{Option, Some, None, ap, zero, suc}
-use Rattle.std.specs.Prelude.{slice_get}
+use Rattle.std.{proofs.Common.{Option, Some, None, ap, zero, suc}, specs.Prelude.slice_get}
 use Rattle.list_lemmas.proofs.Members.{Among, among_append, among_left, among_right}
 use Rattle.list_lemmas.proofs.Places.{at_place, placed}
 use Rattle.compaction.specs.Compaction.{at_marks}
-use Rattle.generator.specs.Held.{AreAllowed}
-use Rattle.generator.specs.Keeping.{AreAmong}
+use Rattle.generator.specs.{Held.AreAllowed, Keeping.AreAmong}
 
 -- one test more
 pub pushed_among : (some tests : List (List Bool)) (x : List Bool) (j : ℕ) → AreAmong some tests

@@ -1,26 +1,18 @@
 -- Lists of tests that detect some fault, and rounds that detect none.
 use Rattle.std.proofs.Common.{◌≡◌, ◌<◌, ◌≤◌, ◌+◌, ◌*◌, ◌∙◌, ◌⊎◌, inl, inr, ℕ, zero, suc, Bool, true}
-use Rattle.std.proofs.Common.{List, All, length, Option, Some, None, refl, sym, ap, subst}
-use Rattle.std.proofs.Common.{[], ◌∷◌, arith, is_none}
-use Rattle.std.specs.Prelude.{Contains, slice_get}
-use Rattle.std.proofs.lemmas.List.{length-map}
-use Rattle.std.proofs.lemmas.List.Sums.{count_by-le-length, length-filter}
+use Rattle.std.proofs.Common.{List, All, length, Option, Some, None, refl, sym, ap, subst, [], ◌∷◌}
+use Rattle.std.{proofs.Common.{arith, is_none}, specs.Prelude.{Contains, slice_get}}
+use Rattle.std.proofs.lemmas.List.{length-map, Sums.{count_by-le-length, length-filter}}
 use Rattle.std.proofs.lemmas.Option.{get_or_from_slice_get, slice_get_within}
-use Rattle.list_lemmas.proofs.Members.{among, contained}
-use Rattle.list_lemmas.proofs.Places.{at_place, placed, within_place}
-use Rattle.bench_net.specs.Circuit.{max_signals, max_sinks}
-use Rattle.bench_net.specs.Statement.{Statement}
-use Rattle.fault_model.specs.declared.Line.{Line}
-use Rattle.fault_model.specs.declared.Model.{Model}
+use Rattle.list_lemmas.proofs.{Members.{among, contained}, Places.{at_place, placed, within_place}}
+use Rattle.bench_net.specs.{Circuit.{max_signals, max_sinks}, Statement.Statement}
+use Rattle.fault_model.specs.{declared.Line.Line, declared.Model.Model, Fault.{Fault, faults}}
 use Rattle.fault_model.specs.declared.Model.TheVariants.{StuckAt, Transition, TransitionPairs}
-use Rattle.fault_model.specs.Collapse.{IsClassOf, next, representatives}
+use Rattle.fault_model.specs.{Collapse.{IsClassOf, next, representatives}, Solution.Detects}
 use Rattle.fault_model.specs.Detection.{DetectsAt, IsInitialized, LooksBack}
-use Rattle.fault_model.specs.Fault.{Fault, faults}
-use Rattle.fault_model.specs.Solution.{Detects}
 use Rattle.fault_model.proofs.Public.{faults_within, listed_model, own_class}
 use Rattle.patterns.specs.Tests.{max_pieces}
-use Rattle.block_sim.specs.First.{IsFirst}
-use Rattle.block_sim.specs.Parts.{BelongTogether, Parts}
+use Rattle.block_sim.specs.{First.IsFirst, Parts.{BelongTogether, Parts}}
 use Rattle.flat_circuit.proofs.Public.{representative_at}
 use Rattle.workers.specs.Verdict.{AreClassFirsts}
 use Rattle.generator.specs.Generated.{DetectsEarly, DetectsSome}
@@ -37,8 +29,7 @@ SameRows t xs ys = (k : ℕ) (row : List Bool) → k ≤ t → slice_get xs k �
 initialized_along : (c : List Statement) (xs ys : List (List Bool)) (l : Line) (b : Bool) (t : ℕ)
     → SameRows t xs ys → IsInitialized c xs l b t → IsInitialized c ys l b t
 initialized_along c xs ys l b zero same is = is
-initialized_along c xs ys l b (suc t) same is =
-    (is.0, same t is.0 (omega arith) is.1, is.2)
+initialized_along c xs ys l b (suc t) same is = (is.0, same t is.0 (omega arith) is.1, is.2)
 
 looks_along : (c : List Statement) (xs ys : List (List Bool)) (m : Model) (l : Line) (b : Bool)
     (t : ℕ) → SameRows t xs ys → LooksBack c xs m l b t → LooksBack c ys m l b t
@@ -65,8 +56,7 @@ early_along m c xs ys same (f, t, low, listed, is) = (
   t,
   low,
   listed,
-  detects_along c xs ys f t (λ k row le e. same k row (omega (arith, le, low)) e)
-      is,
+  detects_along c xs ys f t (λ k row le e. same k row (omega (arith, le, low)) e) is,
 )
 
 pub early_some : (m : Model) (c : List Statement) (tests : List (List Bool))
@@ -187,8 +177,7 @@ few_classes job b =
 pub first_detects : (job : Parts) (classes : List ℕ) (firsts : List (Option ℕ))
     → BelongTogether job → All (λ class. class < length job.classes.representative) classes
     → AreClassFirsts job.list.model job.circuit job.tests.tests classes firsts → (t : ℕ)
-    → HasFirst firsts t
-    → (f : Fault) × Contains (faults job.list.model job.circuit) f
+    → HasFirst firsts t → (f : Fault) × Contains (faults job.list.model job.circuit) f
     × DetectsAt job.circuit job.tests.tests f t
 first_detects job classes firsts b all are t (k, at) =
     let low = slice_get_within firsts k (Some t) at in
@@ -244,13 +233,11 @@ no_class job b none f listed =
     let class = fault_class job b f listed in let low = class.1 in omega (arith, low, none)
 
 -- if no class of a list with all classes has a first test, no test detects a fault
-pub none_detects : (job : Parts) (classes : List ℕ) (firsts : List (Option ℕ))
-    → BelongTogether job
+pub none_detects : (job : Parts) (classes : List ℕ) (firsts : List (Option ℕ)) → BelongTogether job
     → ((class : ℕ) → class < length job.classes.representative
     → (k : ℕ) × (slice_get classes k ≡ Some class))
     → AreClassFirsts job.list.model job.circuit job.tests.tests classes firsts
-    → ((t : ℕ) → HasFirst firsts t → ⊥)
-    → DetectsSome job.list.model job.circuit job.tests.tests → ⊥
+    → ((t : ℕ) → HasFirst firsts t → ⊥) → DetectsSome job.list.model job.circuit job.tests.tests → ⊥
 none_detects job classes firsts b all are none (f, t, listed, detects) =
     let class = fault_class job b f listed in
     let at = all class.0 class.1 in

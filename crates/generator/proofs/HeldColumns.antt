@@ -1,22 +1,17 @@
 -- The words of held columns, and the tests that are made of them.
-use Rattle.std.proofs.Common.{◌≡◌, ◌<◌, ◌≤◌, ◌+◌, ◌*◌, ◌/◌, ◌%◌, ◌∙◌, ◌++◌, ℕ, zero, suc}
-use Rattle.std.proofs.Common.{Bool, true, false, List, [], ◌∷◌, Option, Some, None}
-use Rattle.std.proofs.Common.{ap, arith, get_or, length, map, refl, sym}
-use Rattle.std.specs.Int.{bit_at}
-use Rattle.std.specs.List.{enumerate_from}
+use Rattle.std.proofs.Common.{◌≡◌, ◌<◌, ◌≤◌, ◌+◌, ◌*◌, ◌/◌, ◌%◌, ◌∙◌, ◌++◌, ℕ, zero, suc, Bool}
+use Rattle.std.proofs.Common.{true, false, List, [], ◌∷◌, Option, Some, None, ap, arith, get_or}
+use Rattle.std.{proofs.Common.{length, map, refl, sym}, specs.Int.bit_at, specs.List.enumerate_from}
 use Rattle.std.specs.Prelude.{slice_get, slice_index, slice_index_or}
-use Rattle.std.proofs.Math.Nat.{mul-le-mul_left}
-use Rattle.std.proofs.lemmas.List.{get_or-map, map_push}
+use Rattle.std.proofs.{Math.Nat.mul-le-mul_left, lemmas.List.{get_or-map, map_push}}
 use Rattle.std.proofs.lemmas.List.FromFn.{get_or-enumerate_from, length-enumerate_from}
-use Rattle.std.proofs.lemmas.Nat.{mod-mul-add}
-use Rattle.std.proofs.lemmas.Nat.Bits.{bit_at-zero, bit_at_ones}
+use Rattle.std.proofs.lemmas.Nat.{mod-mul-add, Bits.{bit_at-zero, bit_at_ones}}
 use Rattle.std.proofs.lemmas.Option.{get_or_from_slice_get, slice_get-get_or, slice_get_within}
 use Rattle.rand_core.specs.Stream.{Stream, next_u64}
 use Rattle.text_lines.proofs.Public.{enumerate_from-append}
 use Rattle.patterns.specs.Making.{IsMadeOf, word_of}
 use Rattle.patterns.specs.Tests.{IsTestList, TestList, as_number, bit, blocks}
-use Rattle.generator.specs.Held.{AreAllowed}
-use Rattle.generator.specs.RandomTests.{held_word, held_words, next_words}
+use Rattle.generator.specs.{Held.AreAllowed, RandomTests.{held_word, held_words, next_words}}
 
 pub word_count : (n : ℕ) (s : Stream) → length (next_words n s) ≡ n
 word_count zero s = refl
@@ -24,8 +19,7 @@ word_count (suc n) s = ap suc (word_count n (next_u64 s).1)
 
 -- one word more
 pub held_more : (bits : List (Option Bool)) (words : List ℕ) (word : ℕ)
-    → held_words bits (words ++ word ∷ [])
-    ≡ held_words bits words
+    → held_words bits (words ++ word ∷ []) ≡ held_words bits words
     ++ held_word (slice_index_or bits (length words % length bits) None) word ∷ []
 held_more bits words word =
     let of_column = λ (at : ℕ × ℕ).
@@ -82,10 +76,8 @@ made_allowed bits n words t count list made k test at place b is =
     let modulo : here % width ≡ place =
     ap (λ n. n % width) turned ∙ mod-mul-add block width place column in
     let word : word_of width (held_words bits words) block place
-    ≡ held_word (Some b) (slice_index words here) =
-    held_at bits words here inside
-    ∙ ap (λ o. held_word o (slice_index words here))
-    (ap (λ p. slice_index_or bits p None) modulo
+    ≡ held_word (Some b) (slice_index words here) = held_at bits words here inside
+    ∙ ap (λ o. held_word o (slice_index words here)) (ap (λ p. slice_index_or bits p None) modulo
     ∙ get_or_from_slice_get bits place (Some b) None is) in
     let own : bit_at (word_of width (held_words bits words) block place) lane
     ≡ as_number (bit t.tests (64 * block + lane) place) =
@@ -94,8 +86,7 @@ made_allowed bits n words t count list made k test at place b is =
     let same : as_number (get_or test place false) ≡ as_number b =
     ap (λ r. as_number (get_or r place false)) (sym row)
     ∙ (ap (λ j. as_number (bit t.tests j place)) (sym number)
-    ∙ (sym own ∙ (ap (λ w. bit_at w lane) word
-    ∙ held_bit b (slice_index words here) lane low))) in
+    ∙ (sym own ∙ (ap (λ w. bit_at w lane) word ∙ held_bit b (slice_index words here) lane low))) in
     let each : length (get_or t.tests k []) ≡ t.width = list.each k [] within in
     let long : length test ≡ width = ap length (sym row) ∙ (each ∙ made.same_width) in
     slice_get-get_or test place false (omega (arith, column, long))

@@ -1,21 +1,16 @@
 -- Held inputs, one after another.
 use Rattle.std.proofs.Common.{◌≡◌, ◌<◌, ◌≤◌, ◌+◌, ◌∙◌, ◌++◌, ◌⊎◌, inl, inr, ℕ, zero, suc, Bool}
-use Rattle.std.proofs.Common.{List, [], ◌∷◌, Option, Some, ap, arith, length, map, refl}
-use Rattle.std.proofs.Common.{set, subst, sym}
-use Rattle.std.specs.Prelude.{slice_get, unwrap_or}
-use Rattle.std.proofs.lemmas.Bool.{cases_lt}
-use Rattle.std.proofs.lemmas.List.{length-set}
-use Rattle.std.proofs.lemmas.Option.{slice_get_within}
+use Rattle.std.proofs.Common.{List, [], ◌∷◌, Option, Some, ap, arith, length, map, refl, set, subst}
+use Rattle.std.{proofs.Common.sym, specs.Prelude.{slice_get, unwrap_or}}
+use Rattle.std.proofs.lemmas.{Bool.cases_lt, List.length-set, Option.slice_get_within}
 use Rattle.list_lemmas.proofs.Places.{at_place, placed}
 use Rattle.bench_net.specs.Scan.{cells, inputs, names, sources}
 use Rattle.bench_net.specs.Statement.{Input, Name, Statement}
 use Rattle.bench_net.proofs.Public.{defined_among, of_input}
-use Rattle.generator.specs.declared.held.Held.{Held}
-use Rattle.generator.specs.declared.held.HeldReason.{HeldReason}
+use Rattle.generator.specs.declared.held.{Held.Held, HeldReason.HeldReason}
 use Rattle.generator.specs.declared.held.HeldReason.TheVariants.{Undefined, Gate, FlipFlop, Twice}
 use Rattle.generator.specs.Held.{AreHeldBits, AreHolding, AreAllowed, IsColumn, IsHeldAt}
-use Rattle.generator.specs.Held.{IsHeldFault}
-use Rattle.generator.specs.Held.{IsInputColumn, IsUnfit, IsWrong, Stands}
+use Rattle.generator.specs.Held.{IsHeldFault, IsInputColumn, IsUnfit, IsWrong, Stands}
 
 -- ---- columns
 
@@ -83,8 +78,7 @@ pub record IsSoFar (c : List Statement) (held : List Held) (n : ℕ) (bits : Lis
 
 pub so_far_none : (c : List Statement) (held : List Held) (bits : List (Option Bool))
     → length bits ≡ length (sources c)
-    → ((place : ℕ) (b : Bool) → slice_get bits place ≡ Some (Some b) → ⊥)
-    → IsSoFar c held 0 bits
+    → ((place : ℕ) (b : Bool) → slice_get bits place ≡ Some (Some b) → ⊥) → IsSoFar c held 0 bits
 so_far_none c held bits count none = record {
   count = count;
   inputs = λ k h lt. absurd (omega (arith, lt));
@@ -112,8 +106,7 @@ module _ (c : List Statement) (held : List Held) (n : ℕ) (bits : List (Option 
       free g.bit (was.each wrong.1 place g wrong.3 wrong.4
       (subst (λ name. IsColumn c name place) (sym wrong.5) is.0))
 
-  pub so_far_more : (new : List (Option Bool)) → IsHeldAt c h bits new
-      → IsSoFar c held (n + 1) new
+  pub so_far_more : (new : List (Option Bool)) → IsHeldAt c h bits new → IsSoFar c held (n + 1) new
   so_far_more new is = record {
     count = ap length is.4 ∙ (length-set bits is.0 (Some h.bit) ∙ was.count);
     inputs = λ k g lt e. input k g lt e (cases_lt k n);
@@ -144,8 +137,7 @@ module _ (c : List Statement) (held : List Held) (n : ℕ) (bits : List (Option 
           let here : place ≡ is.0 =
           one_column c h.name.now place is.0 (subst (λ x. IsColumn c x.name.now place) same col)
           is.1.0 in
-          ap (λ l. slice_get l place) is.4
-          ∙ (ap (slice_get (set bits is.0 (Some h.bit))) here
+          ap (λ l. slice_get l place) is.4 ∙ (ap (slice_get (set bits is.0 (Some h.bit))) here
           ∙ (set_here bits is.0 (Some h.bit) is.3 ∙ ap (λ x. Some (Some x.bit)) (sym same)))
 
       kept : (place : ℕ) (b : Bool) → slice_get new place ≡ Some (Some b) → (is.0 ≡ place → ⊥)
@@ -174,8 +166,7 @@ module _ (c : List Statement) (held : List Held) (n : ℕ) (bits : List (Option 
       right_of k g reason lt e (inr le) = λ wrong.
           let number : k ≡ n = omega (arith, lt, le) in
           let same : g ≡ h = same_held held k n g h e at number in
-          not_wrong is.0 is.1 is.2 reason
-          (subst (λ x. IsWrong c held n x.name.now reason) same
+          not_wrong is.0 is.1 is.2 reason (subst (λ x. IsWrong c held n x.name.now reason) same
           (subst (λ i. IsWrong c held i g.name.now reason) number wrong))
 
   wrong_here : (reason : HeldReason) → IsUnfit c h.name.now bits reason

@@ -1,14 +1,10 @@
 -- Wanted tests, and the beginning of the kept tests.
 use Rattle.std.proofs.Common.{◌≡◌, ◌<◌, ◌≤◌, ◌+◌, ◌∙◌, ◌⊎◌, inl, inr, ℕ, zero, suc, Bool, true}
 use Rattle.std.proofs.Common.{false, List, [], ◌∷◌, ◌++◌, length, set, Some, None, refl, sym, ap}
-use Rattle.std.proofs.Common.{Option, subst, arith}
-use Rattle.std.specs.Prelude.{slice_get}
-use Rattle.std.proofs.lemmas.Bool.{cases_lt}
-use Rattle.std.proofs.lemmas.List.{length-append}
-use Rattle.std.proofs.lemmas.Option.{slice_get_within}
+use Rattle.std.{proofs.Common.{Option, subst, arith}, specs.Prelude.slice_get}
+use Rattle.std.proofs.lemmas.{Bool.cases_lt, List.length-append, Option.slice_get_within}
 use Rattle.list_lemmas.proofs.Places.{within_place}
-use Rattle.generator.specs.Keeping.{AreNeeded, HasFirst, HasMark, IsFirstWanted}
-use Rattle.generator.specs.Keeping.{IsMarked, IsWanted}
+use Rattle.generator.specs.Keeping.{AreNeeded, HasFirst, HasMark, IsFirstWanted, IsMarked, IsWanted}
 
 -- an element of a list is also an element of the list with one more
 pub pushed_stay : {X : Type 0} (xs : List X) (y x : X) (k : ℕ) → slice_get xs k ≡ Some x
@@ -17,8 +13,7 @@ pushed_stay [] y x k e = let bad : None ≡ Some x = e in absurd (cc)
 pushed_stay (z ∷ xs) y x zero e = e
 pushed_stay (z ∷ xs) y x (suc k) e = pushed_stay xs y x k e
 
-pub pushed_last : {X : Type 0} (xs : List X) (y : X)
-    → slice_get (xs ++ y ∷ []) (length xs) ≡ Some y
+pub pushed_last : {X : Type 0} (xs : List X) (y : X) → slice_get (xs ++ y ∷ []) (length xs) ≡ Some y
 pushed_last [] y = refl
 pushed_last (z ∷ xs) y = pushed_last xs y
 
@@ -50,10 +45,7 @@ wanted_alone marks t e none = record { wanted = inl e; first = λ j lt w. go j l
 -- in pairs it is the test before that
 pub wanted_before : (marks : List Bool) (t : ℕ) → IsMarked marks (suc t)
     → ((j : ℕ) → j < suc t → IsMarked marks j → ⊥) → IsFirstWanted marks true t
-wanted_before marks t e none = record {
-  wanted = inr (refl, next);
-  first = λ j lt w. go j lt w;
-}
+wanted_before marks t e none = record { wanted = inr (refl, next); first = λ j lt w. go j lt w }
   where
     next : IsMarked marks (t + 1)
     next = let same : suc t ≡ t + 1 = omega arith in subst (IsMarked marks) same e
@@ -83,8 +75,7 @@ module _ (tests : List (List Bool)) (marks : List Bool) (pairs : Bool) (s test :
     (kept : List (List Bool)) (is : IsFirstWanted marks pairs s)
     (was : IsBegun tests marks pairs s test kept) where
   -- one test more, which isn't wanted
-  pub begun_skipped : (IsWanted marks pairs test → ⊥)
-      → IsBegun tests marks pairs s (test + 1) kept
+  pub begun_skipped : (IsWanted marks pairs test → ⊥) → IsBegun tests marks pairs s (test + 1) kept
   begun_skipped not = record {
     before = λ le. was.before (omega (arith, le));
     first = λ lt. go (cases_lt s test) lt;
@@ -142,8 +133,7 @@ module _ (tests : List (List Bool)) (marks : List Bool) (pairs : Bool) (s test :
       low : test < length tests
       low = slice_get_within tests test x at
 
-      go : (s < test) ⊎ (test ≤ s) → s < test + 1
-          → slice_get (kept ++ x ∷ []) 0 ≡ slice_get tests s
+      go : (s < test) ⊎ (test ≤ s) → s < test + 1 → slice_get (kept ++ x ∷ []) 0 ≡ slice_get tests s
       go (inl l) lt =
           let v = within_place tests s (omega (arith, l, low)) in
           pushed_stay kept x v.0 0 (was.first l ∙ v.1) ∙ sym v.1

@@ -1,12 +1,9 @@
 -- The classes that no test of a round detects.
 use Rattle.std.proofs.Common.{◌≡◌, ◌<◌, ◌≤◌, ℕ, zero, suc, Bool, List, [], ◌∷◌, Option, Some, None}
-use Rattle.std.proofs.Common.{All, length, filter, map, is_none, zip, get_or, refl, sym, subst}
-use Rattle.std.proofs.Common.{ap, arith}
-use Rattle.std.specs.Prelude.{slice_get}
-use Rattle.std.proofs.lemmas.List.{length-map}
-use Rattle.std.proofs.lemmas.List.Sums.{count_by-le-length, length-filter}
+use Rattle.std.proofs.Common.{All, length, filter, map, is_none, zip, get_or, refl, sym, subst, ap}
+use Rattle.std.{proofs.Common.arith, specs.Prelude.slice_get, proofs.lemmas.List.length-map}
+use Rattle.std.proofs.lemmas.{List.Sums.{count_by-le-length, length-filter}, Slice.Zip.length-zip}
 use Rattle.std.proofs.lemmas.Option.{get_or_from_slice_get, slice_get-get_or, slice_get_within}
-use Rattle.std.proofs.lemmas.Slice.Zip.{length-zip}
 use Rattle.generator.specs.Keeping.{AreLeft, HasFirst}
 
 -- the classes as the program gathers them
@@ -45,8 +42,7 @@ same_left : (xs : List ℕ) (fs : List (Option ℕ)) → length fs ≡ length xs
 same_left [] fs e none = refl
 same_left (x ∷ xs) [] e none = absurd (omega (arith, e))
 same_left (x ∷ xs) (Some t ∷ fs) e none = absurd (none t (0, refl))
-same_left (x ∷ xs) (None ∷ fs) e none =
-    ap (λ (l : List ℕ). x ∷ l)
+same_left (x ∷ xs) (None ∷ fs) e none = ap (λ (l : List ℕ). x ∷ l)
     (same_left xs fs (omega (arith, e)) (λ t h. none t (suc h.0, h.1)))
 
 pub left_are : (xs : List ℕ) (fs : List (Option ℕ)) (left : List ℕ) → left ≡ gathered xs fs

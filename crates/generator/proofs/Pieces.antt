@@ -1,6 +1,5 @@
 -- Fewer tests make no more pieces, and there is room for a block.
-use Rattle.std.proofs.Common.{ℕ, ◌/◌, ◌≤◌, arith, max}
-use Rattle.std.proofs.Math.Nat.{mul-le-mul_left}
+use Rattle.std.proofs.{Common.{ℕ, ◌/◌, ◌≤◌, arith, max}, Math.Nat.mul-le-mul_left}
 use Rattle.std.proofs.lemmas.Nat.{le-div}
 use Rattle.patterns.specs.Tests.{blocks, max_pieces}
 use Rattle.generator.specs.Generated.{AreFewPieces}

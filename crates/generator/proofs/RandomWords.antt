@@ -1,10 +1,8 @@
 -- Random words, one by one and round by round.
 use Rattle.std.proofs.Common.{◌≡◌, ◌+◌, ◌∙◌, ℕ, zero, suc, List, [], ◌∷◌, ◌++◌, refl, sym, ap}
-use Rattle.std.proofs.Common.{subst}
-use Rattle.std.proofs.Common.{arith}
+use Rattle.std.proofs.Common.{subst, arith}
 use Rattle.rand_core.specs.Stream.{Stream, next_u64}
-use Rattle.rand_xoshiro.specs.SplitMix64.{splitmix_seed}
-use Rattle.rand_xoshiro.specs.Xoshiro256.{of_seed}
+use Rattle.rand_xoshiro.specs.{SplitMix64.splitmix_seed, Xoshiro256.of_seed}
 use Rattle.generator.specs.RandomTests.{after_rounds, after_words, next_words, seeded}
 
 one_word : (k : ℕ) (s : Stream)
@@ -21,8 +19,7 @@ pub word_more : (k : ℕ) (s t u : Stream) (words : List ℕ) (x : ℕ) → word
     → t ≡ after_words k s → (x, u) ≡ next_u64 t
     → (words ++ x ∷ [] ≡ next_words (k + 1) s) × (u ≡ after_words (k + 1) s)
 word_more k s t u words x was at is = (
-  subst (λ n. words ++ x ∷ [] ≡ next_words n s) next
-      (ap (λ (l : List ℕ). l ++ x ∷ []) was
+  subst (λ n. words ++ x ∷ [] ≡ next_words n s) next (ap (λ (l : List ℕ). l ++ x ∷ []) was
       ∙ (ap (λ (y : ℕ). next_words k s ++ y ∷ []) first ∙ sym (one_word k s))),
   subst (λ n. u ≡ after_words n s) next (second ∙ sym (one_after k s)),
 )

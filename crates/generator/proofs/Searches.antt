@@ -1,19 +1,15 @@
 -- The results of a search, round by round.
 use Rattle.std.proofs.Common.{◌≡◌, ◌<◌, ◌≤◌, ◌+◌, ◌*◌, ◌∙◌, ◌⊎◌, inl, inr, ℕ, zero, suc, Bool, List}
 use Rattle.std.proofs.Common.{Option, Some, length, refl, sym, ap, subst, arith}
-use Rattle.std.specs.Prelude.{slice_get}
-use Rattle.std.proofs.Math.Nat.{mul-le-mul_left, suc-mul}
-use Rattle.std.proofs.lemmas.Bool.{cases_lt}
-use Rattle.std.proofs.lemmas.Option.{slice_get_within}
-use Rattle.bench_net.specs.Scan.{sources}
-use Rattle.bench_net.specs.Statement.{Statement}
+use Rattle.std.{specs.Prelude.slice_get, proofs.Math.Nat.{mul-le-mul_left, suc-mul}}
+use Rattle.std.proofs.lemmas.{Bool.cases_lt, Option.slice_get_within}
+use Rattle.bench_net.specs.{Scan.sources, Statement.Statement}
 use Rattle.fault_model.specs.declared.Model.{Model}
 use Rattle.block_sim.specs.Parts.{BelongTogether, Parts}
 use Rattle.compaction.specs.Compaction.{IsCompaction}
 use Rattle.workers.specs.Verdict.{AreClassFirsts}
 use Rattle.generator.specs.Generated.{DetectsEarly, DetectsSome, FindsNone, IsInVain}
-use Rattle.generator.specs.Keeping.{AreLeft, HasFirst}
-use Rattle.generator.specs.RandomTests.{IsRound}
+use Rattle.generator.specs.{Keeping.{AreLeft, HasFirst}, RandomTests.IsRound}
 use Rattle.generator.proofs.Detected.{early_along, no_class, none_detects, some_first}
 
 -- nothing is kept: all of n classes are left, and all rounds so far were in vain
@@ -27,24 +23,21 @@ pub record IsEmptyHanded (m : Model) (c : List Statement) (bits : List (Option B
 
 -- so far the kept tests detect a fault early, or nothing is kept
 abbrev pub IsSearching : Model → List Statement → List (Option Bool) → ℕ → ℕ → ℕ → List ℕ
-    → List (List Bool) → ℕ → ℕ
-    → Type 0
+    → List (List Bool) → ℕ → ℕ → Type 0
 IsSearching m c bits seed blocks n left kept round quiet =
     DetectsEarly m c kept ⊎ IsEmptyHanded m c bits seed blocks n left kept round quiet
 
 -- at first nothing is kept
 pub searching_none : (m : Model) (c : List Statement) (bits : List (Option Bool))
-    (seed blocks n : ℕ) (left : List ℕ)
-    (kept : List (List Bool)) → length kept ≡ 0
+    (seed blocks n : ℕ) (left : List ℕ) (kept : List (List Bool)) → length kept ≡ 0
     → ((class : ℕ) → class < n → (k : ℕ) × (slice_get left k ≡ Some class))
     → IsSearching m c bits seed blocks n left kept 0 0
-searching_none m c bits seed blocks n left kept none all =
-    inr (record {
-      none = none;
-      all = all;
-      tried = λ k lt. absurd (omega (arith, lt));
-      count = omega arith;
-    })
+searching_none m c bits seed blocks n left kept none all = inr (record {
+  none = none;
+  all = all;
+  tried = λ k lt. absurd (omega (arith, lt));
+  count = omega arith;
+})
 
 -- one round more
 pub searching_more : (job : Parts) (left : List ℕ) (firsts : List (Option ℕ)) (still : List ℕ)
@@ -58,11 +51,9 @@ pub searching_more : (job : Parts) (left : List ℕ) (firsts : List (Option ℕ)
     → DetectsEarly job.list.model job.circuit new)
     → AreLeft left firsts still → (length still ≡ length left → next ≡ quiet + blocks)
     → IsSearching job.list.model job.circuit bits seed blocks
-    (length job.classes.representative) left
-    old round quiet
+    (length job.classes.representative) left old round quiet
     → IsSearching job.list.model job.circuit bits seed blocks
-    (length job.classes.representative) still
-    new (round + 1) next
+    (length job.classes.representative) still new (round + 1) next
 searching_more job left firsts still old new bits room seed blocks round quiet next b are
     is_round big
     stay none early left_is counted was = go was
@@ -90,8 +81,7 @@ searching_more job left firsts still old new bits room seed blocks round quiet n
             → IsInVain job.list.model job.circuit bits seed blocks k
         each nothing k lt = by (cases_lt k round)
           where
-            by : (k < round) ⊎ (round ≤ k)
-                → IsInVain job.list.model job.circuit bits seed blocks k
+            by : (k < round) ⊎ (round ≤ k) → IsInVain job.list.model job.circuit bits seed blocks k
             by (inl l) = e.tried k l
             by (inr l) =
                 let same : round ≡ k = omega (arith, l, lt) in
@@ -104,8 +94,7 @@ searching_more job left firsts still old new bits room seed blocks round quiet n
             let same : still ≡ left = left_is.same are.count nothing in
             inr (record {
               none = ap (λ (l : List (List Bool)). length l) (none nothing) ∙ e.none;
-              all = subst
-                  (λ (l : List ℕ).
+              all = subst (λ (l : List ℕ).
                   (class : ℕ) → class < n → (k : ℕ) × (slice_get l k ≡ Some class))
                   (sym same) e.all;
               tried = each nothing;
@@ -129,8 +118,7 @@ pub search_over : (job : Parts) (left : List ℕ) (kept : List (List Bool))
     (bits : List (Option Bool)) (room seed blocks round quiet : ℕ) → BelongTogether job → 1 ≤ room
     → (length left ≡ 0) ⊎ ((20 ≤ quiet) ⊎ (room ≤ length kept))
     → IsSearching job.list.model job.circuit bits seed blocks
-    (length job.classes.representative) left
-    kept round quiet
+    (length job.classes.representative) left kept round quiet
     → DetectsEarly job.list.model job.circuit kept ⊎ FindsNone job.list.model job.circuit bits seed
 search_over job left kept bits room seed blocks round quiet b some over (inl d) = inl d
 search_over job left kept bits room seed blocks round quiet b some over (inr e) = inr (go over)
@@ -155,8 +143,7 @@ search_over job left kept bits room seed blocks round quiet b some over (inr e) 
 
 -- rounds of at least one block are no fewer than their blocks
 pub enough_rounds : (m : Model) (c : List Statement) (bits : List (Option Bool)) (seed blocks n : ℕ)
-    (left : List ℕ)
-    (kept : List (List Bool)) (round quiet : ℕ) → 1 ≤ blocks → 20 ≤ round
+    (left : List ℕ) (kept : List (List Bool)) (round quiet : ℕ) → 1 ≤ blocks → 20 ≤ round
     → IsSearching m c bits seed blocks n left kept round quiet
     → DetectsEarly m c kept ⊎ FindsNone m c bits seed
 enough_rounds m c bits seed blocks n left kept round quiet some long (inl d) = inl d

@@ -1,37 +1,27 @@
 -- Files that have a job within the limit of pieces only fail because memory is refused.
-use Rattle.std.proofs.Common.{◌≡◌, ◌≢◌, ℕ, ◌*◌, ◌<◌, ◌≤◌, ◌++◌, Bool, List, length}
-use Rattle.std.proofs.Common.{refl, sym, ap, subst, ◌∙◌, ⊎_elim, arith}
-use Rattle.std.specs.Prelude.{slice_get, ⊤}
+use Rattle.std.proofs.Common.{◌≡◌, ◌≢◌, ℕ, ◌*◌, ◌<◌, ◌≤◌, ◌++◌, Bool, List, length, refl, sym, ap}
+use Rattle.std.{proofs.Common.{subst, ◌∙◌, ⊎_elim, arith}, specs.Prelude.{slice_get, ⊤}}
 use Rattle.std.proofs.lemmas.List.{length-map}
-use Rattle.bench_net.specs.Statement.{Statement}
-use Rattle.bench_net.specs.Scan.{sources}
-use Rattle.bench_net.specs.Refusal.{IsAccepted}
-use Rattle.fault_model.specs.declared.Model.{Model}
-use Rattle.fault_model.specs.Fault.{faults}
+use Rattle.bench_net.specs.{Statement.Statement, Scan.sources, Refusal.IsAccepted}
+use Rattle.fault_model.specs.{declared.Model.Model, Fault.faults}
 use Rattle.fault_model.specs.Collapse.{Collapsed, AreClassesOf}
-use Rattle.patterns.specs.Making.{test_text}
+use Rattle.patterns.specs.{Making.test_text, declared.TestFault.TestFault}
 use Rattle.patterns.specs.Tests.{TestList, HasTests, IsTestList, IsTestRefusal, blocks, max_pieces}
-use Rattle.patterns.specs.declared.TestFault.{TestFault}
 use Rattle.patterns.specs.declared.TestFault.TheVariants as test_fault
 use Rattle.block_sim.specs.declared.job.JobFault.TheVariants as job_fault
 use Rattle.block_sim.specs.Parts.{Parts, BelongTogether, piece_count, with_tests}
-use Rattle.workers.specs.declared.RunFault.{RunFault}
+use Rattle.workers.specs.{declared.RunFault.RunFault, Refused.IsRunFault, Stops.no_stop}
 use Rattle.workers.specs.declared.RunFault.TheVariants as run_fault
-use Rattle.workers.specs.Refused.{IsRunFault}
-use Rattle.workers.specs.Stops.{no_stop}
-use Rattle.job_loading.specs.declared.fault.ReportFault.{ReportFault}
-use Rattle.job_loading.specs.declared.fault.SimFault.{SimFault}
-use Rattle.job_loading.specs.declared.fault.SimFault.TheVariants as fault
+use Rattle.job_loading.specs.declared.fault.{ReportFault.ReportFault, SimFault.SimFault}
 use Rattle.job_loading.specs.Jobs.{IsJobOf}
+use Rattle.job_loading.specs.declared.fault.SimFault.TheVariants as fault
 use Rattle.report.specs.EndToEnd.{IsReportFault}
 use Rattle.region_runs.specs.Refused.{IsOpenFault}
-use Rattle.test_columns.specs.Columns.{columns_line}
-use Rattle.test_columns.specs.Files.{file_text}
-use Rattle.generator.specs.declared.GeneratorFault.{GeneratorFault}
-use Rattle.generator.specs.declared.GeneratorFault.TheVariants as generator_fault
-use Rattle.generator.specs.declared.held.Held.{Held}
+use Rattle.test_columns.specs.{Columns.columns_line, Files.file_text}
+use Rattle.generator.specs.declared.{GeneratorFault.GeneratorFault, held.Held.Held}
 use Rattle.generator.specs.Generated.{AreFewPieces, HasJob, IsFaultOfHeld, IsFaultOfRun}
 use Rattle.generator.specs.Generated.{IsGeneratorFault}
+use Rattle.generator.specs.declared.GeneratorFault.TheVariants as generator_fault
 
 -- the laws of files: a bench file has one circuit, and a file with tests has no error
 abbrev pub OneCircuit : Type 0
@@ -88,20 +78,16 @@ report_refused one_circuit not_both m bench text workers (fault.Tests f) (job, w
     ⊎_elim (λ (e : f ≡ test_fault.Memory). e)
     (λ (refused : IsTestRefusal text (length (sources c)) f).
     absurd (not_both text (length (sources c)) job.tests f
-    (subst (λ x. HasTests text (length (sources x)) job.tests) same within.0.1) refused))
-    why
+    (subst (λ x. HasTests text (length (sources x)) job.tests) same within.0.1) refused)) why
 report_refused one_circuit not_both m bench text workers (fault.Order f) has unwritten is =
     absurd is
 report_refused one_circuit not_both m bench text workers (fault.Job f) (job, within) unwritten
-    is =
-    ⊎_elim (λ (e : f ≡ job_fault.Memory). e)
+    is = ⊎_elim (λ (e : f ≡ job_fault.Memory). e)
     (λ (many : (other : Parts) × IsJobOf m bench text other × (max_pieces < piece_count other)).
     let same = same_pieces one_circuit m bench text job many.0 within.0 many.1 in
-    absurd (omega (arith, same, within.1, many.2)))
-    is
+    absurd (omega (arith, same, within.1, many.2))) is
 report_refused one_circuit not_both m bench text workers (fault.Run f) has unwritten
-    (job, within, is) =
-    run_refused job workers f within.1 is
+    (job, within, is) = run_refused job workers f within.1 is
 report_refused one_circuit not_both m bench text workers (fault.Report f) has unwritten is =
     absurd (unwritten f refl)
 report_refused one_circuit not_both m bench text workers fault.Memory has unwritten is = is

@@ -1,17 +1,12 @@
 -- The gates of the statements that define a signal are all gates.
 use Rattle.std.proofs.Common.{◌≡◌, ◌∙◌, ◌+◌, ◌<◌, ◌≤◌, ℕ, zero, suc, Bool, true, false, cond, List}
-use Rattle.std.proofs.Common.{[]}
-use Rattle.std.proofs.Common.{◌∷◌, ap, arith, drop, length, map, refl, sym}
-use Rattle.std.proofs.Common.{get_or, inl, inr, set}
-use Rattle.std.proofs.Math.Numerals.{add-one}
-use Rattle.std.proofs.lemmas.Bool.Decides.{eqb_tells}
-use Rattle.std.proofs.lemmas.Grind.{get_or-set_at}
+use Rattle.std.proofs.Common.{[], ◌∷◌, ap, arith, drop, length, map, refl, sym, get_or, inl, inr}
+use Rattle.std.proofs.{Common.set, Math.Numerals.add-one, lemmas.Bool.Decides.eqb_tells}
+use Rattle.std.{proofs.lemmas.Grind.get_or-set_at, specs.List.{filter, flat_map}}
 use Rattle.std.proofs.lemmas.List.{get_or-set_other, length-append, length-map}
-use Rattle.std.specs.List.{filter, flat_map}
 use Rattle.std.specs.Prelude.{◌==◌, Some, None, slice_get}
-use Rattle.bench_net.specs.declared.Kind.{Kind}
+use Rattle.bench_net.specs.{declared.Kind.Kind, Circuit.sink_count}
 use Rattle.bench_net.specs.declared.Kind.TheVariants.{And, Nand, Or, Nor, Xor, Xnor, Not, Buff}
-use Rattle.bench_net.specs.Circuit.{sink_count}
 use Rattle.bench_net.specs.Scan.{cells, gate_line, names, outputs, signal}
 use Rattle.bench_net.specs.Statement.{Statement, Input, Output, Gate, Dff, defines}
 use Rattle.input_check.specs.Counts.{gate_args, gate_count, is_gate_of, kind_place, pin_count}
@@ -40,13 +35,11 @@ gates_among k (Gate n kind args ∷ c) =
     counted false x y xs ys e = e
 gates_among k (Dff q d ∷ c) = gates_among k c
 
-pub pins_among : (c : List Statement)
-    → length (flat_map gate_args (filter defines c)) ≡ pin_count c
+pub pins_among : (c : List Statement) → length (flat_map gate_args (filter defines c)) ≡ pin_count c
 pins_among [] = refl
 pins_among (Input n ∷ c) = pins_among c
 pins_among (Output n ∷ c) = pins_among c
-pins_among (Gate n kind args ∷ c) =
-    length-append args (flat_map gate_args (filter defines c))
+pins_among (Gate n kind args ∷ c) = length-append args (flat_map gate_args (filter defines c))
     ∙ (ap (λ n. length args + n) (pins_among c) ∙ sym (length-append args (flat_map gate_args c)))
 pins_among (Dff q d ∷ c) = pins_among c
 
@@ -122,8 +115,7 @@ past_gate c (Gate n other args ∷ ds) k kind pins zero lt e =
     let are : map (signal c) args ≡ pins = ap (λ p. p.1) both in (
       length_cond (kind_place k == kind_place other) (Gate n other args) (filter (is_gate_of k) ds)
           ∙ ap (λ t. same k t + length (filter (is_gate_of k) ds)) is,
-      length-append args (flat_map gate_args ds)
-          ∙ ap (λ t. t + length (flat_map gate_args ds))
+      length-append args (flat_map gate_args ds) ∙ ap (λ t. t + length (flat_map gate_args ds))
           (sym (length-map args (signal c)) ∙ ap length are),
     )
 past_gate c (Dff q d ∷ ds) k kind pins zero lt e = absurd (cc)

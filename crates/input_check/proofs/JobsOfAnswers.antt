@@ -1,20 +1,14 @@
 -- From the result for a circuit and tests to the result for the files.
-use Rattle.std.proofs.Common.{ℕ, List, refl}
+use Rattle.std.{proofs.Common.{ℕ, List, refl}, specs.declared.alloc.AllocError.AllocError}
 use Rattle.std.specs.Prelude.{Option, Some, None, Result, Ok, Err, IfOk}
-use Rattle.std.specs.declared.alloc.AllocError.{AllocError}
-use Rattle.bench_net.specs.Refusal.{IsAccepted}
-use Rattle.bench_net.specs.Statement.{Statement}
-use Rattle.fault_model.specs.declared.Model.{Model}
-use Rattle.fault_model.specs.Collapse.{AreClassesOf, Collapsed}
+use Rattle.bench_net.specs.{Refusal.IsAccepted, Statement.Statement}
+use Rattle.fault_model.specs.{declared.Model.Model, Collapse.{AreClassesOf, Collapsed}}
 use Rattle.fault_model.specs.Fault.{fault_list}
 use Rattle.patterns.specs.Tests.{TestList}
-use Rattle.block_sim.specs.Parts.{Parts}
-use Rattle.block_sim.specs.JobParts.{IsJobUnder}
-use Rattle.job_loading.specs.Jobs.{AreTestsFor}
-use Rattle.job_loading.proofs.Public.{job_of_texts}
-use Rattle.input_check.specs.declared.answer.Answer.{Answer}
+use Rattle.block_sim.specs.{Parts.Parts, JobParts.IsJobUnder}
+use Rattle.job_loading.{specs.Jobs.AreTestsFor, proofs.Public.job_of_texts}
+use Rattle.input_check.specs.{declared.answer.Answer.Answer, Checks.{IsAnswerTo, IsCircuitAnswer}}
 use Rattle.input_check.specs.declared.answer.Answer.TheVariants as answer
-use Rattle.input_check.specs.Checks.{IsAnswerTo, IsCircuitAnswer}
 
 -- the job of a circuit and of tests
 abbrev pub made_job : Model → List Statement → Collapsed → TestList → Parts

@@ -1,24 +1,18 @@
 -- A job of the circuit and the tests of accepted files is a job of the files.
 use Rattle.std.proofs.Common.{◌≡◌, ◌⊎◌, ◌<◌, ◌≤◌, ℕ, List, length, refl, sym, ap, subst, inl, inr}
 use Rattle.std.specs.Prelude.{Result, Err, ◌↔◌}
-use Rattle.bench_net.specs.Statement.{Statement}
-use Rattle.bench_net.specs.Scan.{sources}
-use Rattle.bench_net.specs.Refusal.{IsAccepted}
-use Rattle.fault_model.specs.declared.Model.{Model}
-use Rattle.fault_model.specs.Fault.{FaultList, fault_list}
+use Rattle.bench_net.specs.{Statement.Statement, Scan.sources, Refusal.IsAccepted}
+use Rattle.fault_model.specs.{declared.Model.Model, Fault.{FaultList, fault_list}}
 use Rattle.fault_model.specs.Collapse.{Collapsed, AreClassesOf}
 use Rattle.patterns.specs.Tests.{TestList, HasTests, max_pieces}
-use Rattle.block_sim.specs.declared.job.JobFault.{JobFault}
-use Rattle.block_sim.specs.declared.job.JobFault.TheVariants as job_fault
+use Rattle.block_sim.specs.{declared.job.JobFault.JobFault, JobParts.IsJobUnder}
 use Rattle.block_sim.specs.Parts.{BelongTogether, Parts, piece_count, with_tests}
-use Rattle.job_loading.specs.declared.fault.SimFault.{SimFault}
-use Rattle.job_loading.specs.declared.fault.SimFault.TheVariants as fault
-use Rattle.block_sim.specs.JobParts.{IsJobUnder}
-use Rattle.job_loading.specs.declared.runs.Limit.{Limit}
-use Rattle.job_loading.specs.declared.runs.Limit.TheVariants as limit
-use Rattle.job_loading.specs.Jobs.{AreTestsFor, IsJobFault, IsJobOf, IsPiecesFault}
-use Rattle.job_loading.specs.Jobs.{IsReadFault}
+use Rattle.block_sim.specs.declared.job.JobFault.TheVariants as job_fault
+use Rattle.job_loading.specs.declared.{fault.SimFault.SimFault, runs.Limit.Limit}
+use Rattle.job_loading.specs.Jobs.{AreTestsFor, IsJobFault, IsJobOf, IsPiecesFault, IsReadFault}
 use Rattle.job_loading.specs.Limits.{IsLimitFault, IsLimitFaultFor, IsWithinLimit}
+use Rattle.job_loading.specs.declared.fault.SimFault.TheVariants as fault
+use Rattle.job_loading.specs.declared.runs.Limit.TheVariants as limit
 
 -- the parts that are made for a circuit and tests are a job of them
 pub job_is : (m : Model) (c : List Statement) (list : FaultList) (classes : Collapsed)
@@ -112,8 +106,7 @@ too_many job tests l together fit is many =
 
 -- and else the job is within the limit
 pub not_too_many : (job run : Parts) (tests : TestList) (l : Limit) → run ≡ with_tests job tests
-    → (l ≡ limit.Pieces → piece_count (with_tests job tests) ≤ max_pieces)
-    → IsWithinLimit l run
+    → (l ≡ limit.Pieces → piece_count (with_tests job tests) ≤ max_pieces) → IsWithinLimit l run
 not_too_many job run tests limit.Pieces is few =
     subst (λ p. piece_count p ≤ max_pieces) (sym is) (few refl)
 not_too_many job run tests limit.None is few = tt

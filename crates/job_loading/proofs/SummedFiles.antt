@@ -1,17 +1,13 @@
 -- A hasher of the bytes that were read of a file.
 use Rattle.std.proofs.Common.{◌≡◌, ◌∙◌, ◌++◌, ◌-◌, ℕ, List, [], Option, None, Some, ap, append-nil}
 use Rattle.std.proofs.Common.{append_assoc, arith, length, length-append, refl, subst, sym, take}
-use Rattle.std.proofs.Math.Logic.{∥∥₁_map}
-use Rattle.std.proofs.lemmas.List.{take_at}
-use Rattle.std.specs.Io.KnownBytes.{Consumes}
-use Rattle.sha2.specs.Hashers.{Holds256}
-use Rattle.sha2.specs.declared.Sha256.{Sha256}
+use Rattle.std.{proofs.Math.Logic.∥∥₁_map, proofs.lemmas.List.take_at, specs.Io.KnownBytes.Consumes}
+use Rattle.sha2.specs.{Hashers.Holds256, declared.Sha256.Sha256}
 use Rattle.job_loading.specs.Sums.{IsSummed, IsSummedAt, read_of}
 
 -- the bytes before those that are left
 read_is : (text front left : List ℕ) → text ≡ front ++ left → read_of text left ≡ front
-read_is text front left is =
-    ap (λ t. take (length t - length left) t) is
+read_is text front left is = ap (λ t. take (length t - length left) t) is
     ∙ take_at front left (length (front ++ left) - length left)
     (omega (arith, length-append front left))
 
@@ -35,8 +31,7 @@ summed_more known (Some rest) (Some more) before after bytes s read took = recor
       let was = s.at text rest e refl in
       let same : more ≡ r = cc in
       let front = read_of text rest ++ bytes in
-      let split : text ≡ front ++ more =
-      was.split ∙ (ap (λ x. read_of text rest ++ x) read
+      let split : text ≡ front ++ more = was.split ∙ (ap (λ x. read_of text rest ++ x) read
       ∙ sym (append_assoc (read_of text rest) bytes more)) in
       let own : read_of text more ≡ front = read_is text front more split in
       subst (λ x. IsSummedAt text x after) same (record {
@@ -50,8 +45,7 @@ summed_more known (Some rest) (Some more) before after bytes s read took = recor
 
 -- nothing is left, so the hasher holds the text
 pub summed_all : (known left : Option (List ℕ)) (hasher : Option Sha256) (text : List ℕ)
-    (h : Sha256)
-    → IsSummed known left hasher → known ≡ Some text → left ≡ Some [] → hasher ≡ Some h
+    (h : Sha256) → IsSummed known left hasher → known ≡ Some text → left ≡ Some [] → hasher ≡ Some h
     → ∥ Holds256 h text ∥₁
 summed_all known left hasher text h s e ended is =
     let at = s.at text [] e ended in

@@ -3,8 +3,7 @@ use Rattle.std.proofs.Common.{◌≡◌, ℕ, zero, suc, refl, sym, ap, subst, L
 use Rattle.std.proofs.Common.{inl, inr, ◌⊎◌}
 use Rattle.std.specs.Prelude.{Contains, Some, None, slice_get, map, AllPairs, ◌≢◌, unwrap_or}
 use Rattle.list_lemmas.proofs.Members.{Among, contained, among_left, among_right, among_append}
-use Rattle.list_lemmas.proofs.Members.{mapped_from}
-use Rattle.list_lemmas.proofs.Places.{at_place}
+use Rattle.list_lemmas.proofs.{Members.mapped_from, Places.at_place}
 
 -- no element stands twice
 abbrev pub Distinct : {X : Type 0} → List X → Type 0

@@ -2,8 +2,7 @@
 use Rattle.std.proofs.Common.{◌≡◌, ℕ, zero, suc, ◌<◌, ◌∙◌, ◌++◌, refl, sym, ap, List, [], ◌∷◌}
 use Rattle.std.proofs.Common.{length, arith, inl, inr, ◌⊎◌, Bool, true, false, ◌||◌, subst}
 use Rattle.std.specs.Prelude.{Contains, slice_index_or, map, filter, flat_map}
-use Rattle.std.specs.List.{list_all, list_any}
-use Rattle.std.proofs.lemmas.Bool.{and_parts}
+use Rattle.std.{specs.List.{list_all, list_any}, proofs.lemmas.Bool.and_parts}
 
 abbrev pub Among : {X : Type 0} → X → List X → Type 0
 Among x [] = ⊥

@@ -1,8 +1,7 @@
 -- The places of a list, and its elements beside their places.
 use Rattle.std.proofs.Common.{◌≡◌, ℕ, zero, suc, ◌+◌, ◌<◌, refl, sym, ◌∙◌, ap, subst, List, [], ◌∷◌}
-use Rattle.std.proofs.Common.{length, arith, inl, inr}
+use Rattle.std.{proofs.Common.{length, arith, inl, inr}, specs.List.enumerate_from}
 use Rattle.std.specs.Prelude.{Some, None, slice_get, map, unwrap_or}
-use Rattle.std.specs.List.{enumerate_from}
 use Rattle.list_lemmas.proofs.Members.{Among}
 
 -- an element has a place, and what stands at a place is an element

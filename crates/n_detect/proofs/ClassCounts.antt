@@ -1,7 +1,6 @@
 -- Counts of classes, and of the faults of a class.
 use Rattle.std.proofs.Common.{◌≡◌, ◌<◌, ◌∙◌, ℕ, List, Option, ap, arith, length, sym}
-use Rattle.std.specs.Prelude.{Some, slice_get}
-use Rattle.std.proofs.lemmas.List.{length-map}
+use Rattle.std.{specs.Prelude.{Some, slice_get}, proofs.lemmas.List.length-map}
 use Rattle.std.proofs.lemmas.Option.{slice_get_within}
 use Rattle.list_lemmas.proofs.Places.{within_place}
 use Rattle.fault_model.specs.Fault.{Fault, FaultList, faults}

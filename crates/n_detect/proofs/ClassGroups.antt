@@ -1,22 +1,17 @@
 -- The tests of each class, group by group.
-use Rattle.std.proofs.Common.{◌≡◌, ◌≢◌, ◌<◌, ◌≤◌, ◌+◌, ◌*◌, ◌⊎◌, inl, inr, ℕ, Bool, true}
-use Rattle.std.proofs.Common.{List, set, length, sym, ◌∙◌, ap, subst, arith}
+use Rattle.std.proofs.Common.{◌≡◌, ◌≢◌, ◌<◌, ◌≤◌, ◌+◌, ◌*◌, ◌⊎◌, inl, inr, ℕ, Bool, true, List, set}
+use Rattle.std.{proofs.Common.{length, sym, ◌∙◌, ap, subst, arith}, specs.declared.vec.Vec.Vec}
 use Rattle.std.specs.Prelude.{Some, bit_or, slice_get, slice_index, slice_index_or}
-use Rattle.std.specs.declared.vec.Vec.{Vec}
-use Rattle.std.proofs.lemmas.Bool.{cases_eq}
-use Rattle.std.proofs.lemmas.List.{length-set}
+use Rattle.std.proofs.lemmas.{Bool.cases_eq, List.length-set}
 use Rattle.std.proofs.lemmas.Option.{slice_get-get_or, slice_get_within}
 use Rattle.list_lemmas.proofs.Places.{place_within}
 use Rattle.counting_sort.specs.SortedPlaces.{ArePositions}
 use Rattle.patterns.specs.Tests.{blocks}
-use Rattle.flat_circuit.proofs.Public.{set_here, set_there}
-use Rattle.flat_circuit.specs.BlockSpans.{groups}
+use Rattle.flat_circuit.{proofs.Public.{set_here, set_there}, specs.BlockSpans.groups}
 use Rattle.block_sim.specs.Parts.{BelongTogether, Parts}
 use Rattle.region_sim.specs.Goals.{AreHits, TellHits}
-use Rattle.region_runs.proofs.Public.{some_hits}
-use Rattle.region_runs.specs.Tasks.{AreKept, task_of}
-use Rattle.n_detect.specs.ClassTests.{AreClassTests, AreGroupsIn}
-use Rattle.n_detect.specs.ListLanes.{AreLanesIn}
+use Rattle.region_runs.{proofs.Public.some_hits, specs.Tasks.{AreKept, task_of}}
+use Rattle.n_detect.specs.{ClassTests.{AreClassTests, AreGroupsIn}, ListLanes.AreLanesIn}
 use Rattle.n_detect.proofs.GroupWords.{lanes_more, lanes_same}
 
 -- a word of a group more
@@ -47,8 +42,7 @@ groups_taken count group hits low from to le old word tells was = record {
         (lanes_more group hits low from to le (slice_index_or old group 0) word tells
         (was.each group (slice_index_or old group 0)
         (slice_get-get_or old group 0 (omega (arith, lt, long))))))
-    go g w at (inr ne) =
-        lanes_same g hits low from to le group w word (λ e. ne (sym e)) tells
+    go g w at (inr ne) = lanes_same g hits low from to le group w word (λ e. ne (sym e)) tells
         (was.each g w (sym (set_there old group g now ne) ∙ at))
 
 -- past the last group nothing changes
@@ -68,8 +62,7 @@ groups_past count group hits low from to le old word past tells was = record {
 pub tests_of_classes : {Z : Type 0} (job : Parts) → BelongTogether job → (count : ℕ)
     → count ≡ groups (length job.tests.tests) → (classes positions : List ℕ)
     (rows : List (Vec ℕ Z)) → ArePositions classes positions
-    → length positions ≡ length job.classes.representative
-    → AreKept (task_of job 0 (λ _. true)
+    → length positions ≡ length job.classes.representative → AreKept (task_of job 0 (λ _. true)
     (λ hits low high (kept : Vec ℕ Z). AreGroupsIn count hits low high kept.items)) classes rows
     → AreClassTests job positions rows
 tests_of_classes {Z} job b count is classes positions rows placed long are = record {

@@ -1,25 +1,18 @@
 -- Counts on the first tests of a list, and those that a run keeps.
-use Rattle.std.proofs.Common.{◌≡◌, ◌<◌, ◌≤◌, ◌+◌, ◌-◌, ◌*◌, ℕ, suc, Bool, List, length, map}
-use Rattle.std.proofs.Common.{min, Option, None, ap, ◌∙◌, arith, cond, subst}
+use Rattle.std.proofs.Common.{◌≡◌, ◌<◌, ◌≤◌, ◌+◌, ◌-◌, ◌*◌, ℕ, suc, Bool, List, length, map, min}
+use Rattle.std.{proofs.Common.{Option, None, ap, ◌∙◌, arith, cond, subst}, specs.Bool.Decides}
 use Rattle.std.specs.Prelude.{Some, count_by, nat_lt, slice_get, slice_index}
-use Rattle.std.specs.Bool.{Decides}
-use Rattle.std.proofs.lemmas.List.{length-map}
-use Rattle.std.proofs.lemmas.Option.{slice_get_within}
+use Rattle.std.proofs.lemmas.{List.length-map, Option.slice_get_within}
 use Rattle.list_lemmas.proofs.Places.{from_mapped, within_place}
 use Rattle.counting_sort.specs.SortedPlaces.{ArePositions}
-use Rattle.fault_model.specs.Fault.{Fault}
-use Rattle.fault_model.specs.Collapse.{representatives}
-use Rattle.fault_model.specs.Detection.{DetectsAt}
-use Rattle.patterns.specs.Least.{below, from_up}
-use Rattle.patterns.specs.Tests.{blocks}
-use Rattle.block_sim.specs.Parts.{BelongTogether, Parts}
+use Rattle.fault_model.specs.{Fault.Fault, Collapse.representatives, Detection.DetectsAt}
+use Rattle.patterns.specs.{Least.{below, from_up}, Tests.blocks}
+use Rattle.block_sim.{specs.Parts.{BelongTogether, Parts}, proofs.Public.which_detect}
 use Rattle.flat_circuit.proofs.Public.{representative_at}
-use Rattle.block_sim.proofs.Public.{which_detect}
 use Rattle.region_sim.specs.Goals.{IsFirstHit}
 use Rattle.region_runs.specs.Tasks.{AreKept, first_tests, task_of}
 use Rattle.n_detect.specs.CountLaws.{count_more, count_none, count_parts}
-use Rattle.n_detect.specs.Detections.{AreCountsAt, IsClassCount}
-use Rattle.n_detect.specs.HitCounts.{IsHitCount, one_of}
+use Rattle.n_detect.specs.{Detections.{AreCountsAt, IsClassCount}, HitCounts.{IsHitCount, one_of}}
 use Rattle.n_detect.proofs.RangeCounts.{all_blocks}
 
 -- of the first tests, as many as the number, this many detect the representative of a class,
@@ -49,11 +42,7 @@ module _ (job : Parts) (most class tests count : ℕ) (b : BelongTogether job)
   counted_by number = record {
     fault = fault.0;
     of = fault.1;
-    count = record {
-      detects = which.0;
-      decides = which.1;
-      number = number;
-    };
+    count = record { detects = which.0; decides = which.1; number = number };
   }
 
   -- all tests are counted

@@ -1,16 +1,12 @@
 -- The lanes of a group, once a word of it or of another group was taken.
 use Rattle.std.proofs.Common.{◌≡◌, ◌≢◌, ◌<◌, ◌≤◌, ◌+◌, ◌*◌, ◌⊎◌, ◌||◌, inl, inr, ℕ, Bool, true}
-use Rattle.std.proofs.Common.{false}
-use Rattle.std.proofs.Common.{List, refl, sym, ◌∙◌, subst, length, arith}
-use Rattle.std.specs.Prelude.{Some, bit_or, slice_get}
-use Rattle.std.proofs.lemmas.Bool.{cases_lt, false≢true}
+use Rattle.std.proofs.Common.{false, List, refl, sym, ◌∙◌, subst, length, arith}
+use Rattle.std.{specs.Prelude.{Some, bit_or, slice_get}, proofs.lemmas.Bool.{cases_lt, false≢true}}
 use Rattle.list_lemmas.proofs.Places.{place_within}
-use Rattle.flat_circuit.proofs.Public.{lane_or, lane_zero}
-use Rattle.flat_circuit.specs.Words.{lane}
+use Rattle.flat_circuit.{proofs.Public.{lane_or, lane_zero}, specs.Words.lane}
 use Rattle.flat_circuit.specs.declared.block_span.BlockSpan.{BlockSpan}
 use Rattle.flat_circuit.specs.declared.origin.ListedClass.{ListedClass}
-use Rattle.block_sim.proofs.Public.{which_detect}
-use Rattle.block_sim.specs.Listed.{IsListed}
+use Rattle.block_sim.{proofs.Public.which_detect, specs.Listed.IsListed}
 use Rattle.block_sim.specs.Parts.{BelongTogether, Parts}
 use Rattle.region_sim.specs.Goals.{HaveTaken, TellHits}
 use Rattle.n_detect.specs.ListLanes.{AreLanesIn, HaveGroupLanes}

@@ -1,11 +1,8 @@
 -- Counts of the hits before a window and of those in it.
 use Rattle.std.proofs.Common.{◌≡◌, ◌<◌, ◌≤◌, ◌+◌, ◌-◌, ◌∙◌, ℕ, zero, suc, Bool, ap, arith, cond}
-use Rattle.std.proofs.Common.{min}
-use Rattle.std.proofs.Common.{refl, sym}
-use Rattle.std.specs.Prelude.{count_by}
+use Rattle.std.{proofs.Common.{min, refl, sym}, specs.Prelude.count_by}
 use Rattle.patterns.specs.Least.{from_up}
-use Rattle.n_detect.specs.CountLaws.{count_more, count_parts}
-use Rattle.n_detect.specs.HitCounts.{IsHitCount}
+use Rattle.n_detect.specs.{CountLaws.{count_more, count_parts}, HitCounts.IsHitCount}
 
 -- the same numbers have a property, counted from another one on
 count_moved : (own hits : ℕ → Bool) (start a n : ℕ)
@@ -15,8 +12,7 @@ count_moved own hits start a zero same = refl
 count_moved own hits start a (suc n) same =
     let here : a ≡ a + 0 = omega arith in
     let there : start + (a + 0) ≡ start + a = omega arith in
-    let first : own a ≡ hits (start + a) =
-    ap own here ∙ (same 0 (omega arith) ∙ ap hits there) in
+    let first : own a ≡ hits (start + a) = ap own here ∙ (same 0 (omega arith) ∙ ap hits there) in
     let number : Bool → ℕ = λ b. cond b 1 0 in
     let one : number (own a) ≡ number (hits (start + a)) = ap number first in
     let rest = count_moved own hits start (a + 1) n (λ j lt.
@@ -30,8 +26,7 @@ count_moved own hits start a (suc n) same =
 
 -- both together are the count of all
 pub count_joined : (most start old later new low mid high : ℕ) (hits own : ℕ → Bool)
-    → low ≤ start + mid → mid ≤ high
-    → ((t : ℕ) → mid ≤ t → t < high → own t ≡ hits (start + t))
+    → low ≤ start + mid → mid ≤ high → ((t : ℕ) → mid ≤ t → t < high → own t ≡ hits (start + t))
     → IsHitCount most hits low (start + mid) old → IsHitCount most own mid high later
     → new ≡ min most (old + later) → IsHitCount most hits low (start + high) new
 count_joined most start old later new low mid high hits own le up same was found is =

@@ -1,8 +1,7 @@
 -- The lanes of the classes of a list, from those of their rows.
 use Rattle.std.proofs.Common.{◌≡◌, ◌∙◌, ℕ, List, ap, arith, length, subst, sym}
 use Rattle.std.specs.Prelude.{Some, option_map, slice_get, unwrap_or}
-use Rattle.std.proofs.lemmas.List.{length-map}
-use Rattle.std.proofs.lemmas.Option.{slice_get-map, slice_get_within}
+use Rattle.std.proofs.lemmas.{List.length-map, Option.{slice_get-map, slice_get_within}}
 use Rattle.list_lemmas.proofs.Places.{within_place}
 use Rattle.flat_circuit.specs.declared.origin.ListedClass.{ListedClass}
 use Rattle.block_sim.specs.Parts.{Parts}

@@ -1,16 +1,11 @@
 -- The number of numbers of a range with a property, and the number of set bits of a word.
 use Rattle.std.proofs.Common.{◌≡◌, ◌<◌, ◌≤◌, ◌+◌, ◌-◌, ◌/◌, ◌%◌, ◌^◌, ◌==◌, ℕ, zero, suc, Bool}
 use Rattle.std.proofs.Common.{true, false, List, length, cond, refl, sym, ap, ◌∙◌, arith}
-use Rattle.std.specs.Prelude.{count_by, count_ones}
-use Rattle.std.specs.Bool.{Decides}
-use Rattle.std.specs.Int.Count.{ones_step}
-use Rattle.std.proofs.lemmas.Nat.{ones_le_self}
-use Rattle.std.proofs.lemmas.Nat.Bits.{bit_at-suc, bit_at_lowest}
+use Rattle.std.specs.{Prelude.{count_by, count_ones}, Bool.Decides, Int.Count.ones_step}
+use Rattle.std.proofs.lemmas.Nat.{ones_le_self, Bits.{bit_at-suc, bit_at_lowest}}
 use Rattle.list_lemmas.proofs.Places.{place_within}
 use Rattle.bench_net.specs.Statement.{Statement}
-use Rattle.fault_model.specs.Fault.{Fault}
-use Rattle.fault_model.specs.Solution.{Test}
-use Rattle.fault_model.specs.Detection.{DetectsAt}
+use Rattle.fault_model.specs.{Fault.Fault, Solution.Test, Detection.DetectsAt}
 use Rattle.patterns.specs.Least.{from_up, below}
 use Rattle.flat_circuit.specs.Words.{lane}
 use Rattle.n_detect.specs.CountLaws.{count_more, count_none, count_parts}
@@ -34,8 +29,7 @@ ones_lanes (suc k) w a p few same =
     let rest = ones_lanes k (w / 2) (a + 1) p half (λ j lt. ap (λ x. x == 1) (sym (bit_at-suc w j))
     ∙ same (suc j) (omega (arith, lt))
     ∙ ap p (let q : a + suc j ≡ (a + 1) + j = omega arith in q)) in
-    let own : (w % 2 == 1) ≡ p a =
-    ap (λ x. x == 1) (sym (bit_at_lowest w)) ∙ same 0 (omega arith)
+    let own : (w % 2 == 1) ≡ p a = ap (λ x. x == 1) (sym (bit_at_lowest w)) ∙ same 0 (omega arith)
     ∙ ap p (let q : a + 0 ≡ a = omega arith in q) in
     let first = lowest (w % 2) (p a) (omega arith) own in
     let step = ones_step w in

@@ -1,13 +1,11 @@
 -- The hits that the lanes of a word tell, and their number.
 use Rattle.std.proofs.Common.{◌≡◌, ◌<◌, ◌≤◌, ◌+◌, ◌-◌, ◌⊎◌, ◌^◌, inl, inr, ℕ, Bool, true, false}
-use Rattle.std.proofs.Common.{min, refl, sym, ap, ◌∙◌, arith}
+use Rattle.std.proofs.{Common.{min, refl, sym, ap, ◌∙◌, arith}, lemmas.Bool.false≢true}
 use Rattle.std.specs.Prelude.{count_by, count_ones}
-use Rattle.std.proofs.lemmas.Bool.{false≢true}
 use Rattle.patterns.specs.Least.{from_up}
 use Rattle.flat_circuit.specs.Words.{lane}
 use Rattle.region_sim.specs.Goals.{TellHits}
-use Rattle.n_detect.specs.CountLaws.{count_none, count_parts, count_same}
-use Rattle.n_detect.specs.HitCounts.{IsHitCount}
+use Rattle.n_detect.specs.{CountLaws.{count_none, count_parts, count_same}, HitCounts.IsHitCount}
 use Rattle.n_detect.proofs.RangeCounts.{ones_lanes}
 
 module _ (hits : ℕ → Bool) (first from to word : ℕ) (few : word < 2 ^ 128)
@@ -45,8 +43,7 @@ module _ (hits : ℕ → Bool) (first from to word : ℕ) (few : word < 2 ^ 128)
       let before = from - first in
       let own = to - from in
       let after = (first + 128) - to in
-      let all = ones_lanes 128 word first told few
-      (λ j lt. ap (lane word) (omega (arith))) in
+      let all = ones_lanes 128 word first told few (λ j lt. ap (lane word) (omega (arith))) in
       let parts : 128 ≡ before + (own + after) = omega (arith, low, ordered, high) in
       let whole = ap (λ n. count_by told (from_up first n)) parts in
       let one = count_parts told first before (own + after) in

@@ -8,8 +8,8 @@ use region_runs::WindowGoal;
 use region_sim::{FirstUnit, Goal};
 use std::alloc::{AllocError, Global};
 
-/// Most classes of a list stay open behind their first 512 tests if each needs more than this number
-/// of detections.
+/// Most classes of a list stay open behind their first 512 tests if each needs more than this
+/// number of detections.
 const MANY: u32 = 16;
 
 /// The number of tests that detect a class, counted up to a number. A class is open until its count

@@ -2,25 +2,21 @@
 use Rattle.std.proofs.Common.{◌≡◌, ℕ, ◌<◌, List, [], ◌∷◌, length, get_or, Option, Some, None}
 use Rattle.std.proofs.lemmas.Bool.{cond_both, not-false, ltb-true}
 use Rattle.orders.specs.declared.OrderFault.{OrderFault}
-use Rattle.orders.specs.declared.OrderFault.TheVariants as fault
-use Rattle.text_lines.specs.Rows.{Row, rows}
-use Rattle.text_lines.proofs.Public.{first_fault, no_fault_at}
 use Rattle.orders.specs.Order.{max_moves, number, order_fault, order_faults}
+use Rattle.orders.specs.declared.OrderFault.TheVariants as fault
+use Rattle.text_lines.{specs.Rows.{Row, rows}, proofs.Public.{first_fault, no_fault_at}}
 
 -- the error of a row, by cases
 order_fault_by : (workers : ℕ) (at : ℕ × Row) (P : Option OrderFault → Type 0)
     → P (Some fault.TooMany) → P (Some (fault.BadNumber at.1.line))
     → P (Some (fault.NoSuchWorker at.1.line))
     → (at.0 < max_moves → number at.1.bytes < workers → P None) → P (order_fault workers at)
-order_fault_by workers at P many bad out none =
-    cond_both _ _ _ P (λ _. many) (λ room.
-    cond_both _ _ _ P (λ _. bad) (λ digits.
-    cond_both _ _ _ P (λ _. out) (λ below.
+order_fault_by workers at P many bad out none = cond_both _ _ _ P (λ _. many) (λ room.
+    cond_both _ _ _ P (λ _. bad) (λ digits. cond_both _ _ _ P (λ _. out) (λ below.
     none (ltb-true _ _ (not-false _ room)) (ltb-true _ _ (not-false _ below)))))
 
 not_memory : (workers : ℕ) (at : ℕ × Row) → order_fault workers at ≡ Some fault.Memory → ⊥
-not_memory workers at =
-    order_fault_by workers at (λ o. o ≡ Some fault.Memory → ⊥)
+not_memory workers at = order_fault_by workers at (λ o. o ≡ Some fault.Memory → ⊥)
     (λ e. cc) (λ e. cc) (λ e. cc) (λ room below e. cc)
 
 order_fault-none : (workers : ℕ) (at : ℕ × Row) → order_fault workers at ≡ None

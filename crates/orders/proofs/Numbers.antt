@@ -1,12 +1,9 @@
 -- Lemmas on the numbers of an order file.
 use Rattle.std.proofs.Common.{◌≡◌, ℕ, ◌+◌, ◌-◌, ◌*◌, ◌^◌, ◌<◌, ◌≤◌, true, List, take, length}
 use Rattle.std.proofs.Common.{get_or, sym, refl, ap, ◌∙◌, add-one, arith, take_all, lit<}
-use Rattle.std.specs.List.{list_all}
-use Rattle.std.specs.Char.{is_ascii_digit}
-use Rattle.std.proofs.Math.Nat.{pow-suc, pow-le-pow_right}
+use Rattle.std.{specs.List.list_all, specs.Char.is_ascii_digit, proofs.lemmas.List.Sums.fold_more}
+use Rattle.std.proofs.{Math.Nat.{pow-suc, pow-le-pow_right}, lemmas.List.Folds.list_all_more}
 use Rattle.std.proofs.lemmas.Bool.{and_parts, and_from, leb-true, le-leb}
-use Rattle.std.proofs.lemmas.List.Sums.{fold_more}
-use Rattle.std.proofs.lemmas.List.Folds.{list_all_more}
 use Rattle.orders.specs.Order.{is_number, number}
 
 -- the bytes before place i are digits, and n is what they stand for
@@ -40,8 +37,7 @@ IsRead-bound bytes i n few read =
 
 -- all bytes are read
 pub is_number_all : (bytes : List ℕ) (i n : ℕ) → length bytes ≤ i → length bytes ≤ 9
-    → IsRead bytes i n
-    → (is_number bytes ≡ true) × (n ≡ number bytes)
+    → IsRead bytes i n → (is_number bytes ≡ true) × (n ≡ number bytes)
 is_number_all bytes i n all few read =
     let whole = take_all i bytes all in (
       and_from _ _ (le-leb _ 9 few) (sym (ap (list_all is_ascii_digit) whole) ∙ read.digits),

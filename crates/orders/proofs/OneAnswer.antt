@@ -1,14 +1,12 @@
 -- Each order file is accepted or has an error, with one result.
 use Rattle.std.proofs.Common.{◌≡◌, ℕ, ◌<◌, ◌≤◌, ◌⊎◌, All, List, [], ◌∷◌, map, length, sym, refl, ap}
-use Rattle.std.proofs.Common.{◌∙◌, subst, inl, inr, ⊎_elim, arith}
-use Rattle.std.proofs.lemmas.Bool.{cases_lt}
-use Rattle.std.proofs.lemmas.List.{length-map}
-use Rattle.std.proofs.lemmas.List.Elements.{All-map}
+use Rattle.std.proofs.{Common.{◌∙◌, subst, inl, inr, ⊎_elim, arith}, lemmas.Bool.cases_lt}
+use Rattle.std.proofs.lemmas.List.{length-map, Elements.All-map}
 use Rattle.orders.specs.declared.OrderFault.{OrderFault}
-use Rattle.orders.specs.declared.OrderFault.TheVariants as order
-use Rattle.text_lines.specs.Rows.{rows}
 use Rattle.orders.specs.Order.{max_moves, number, order_faults, HasMoves, IsOrderRefusal}
 use Rattle.orders.proofs.MoveFaults.{order_faults-not_memory, rows-no_order_fault}
+use Rattle.orders.specs.declared.OrderFault.TheVariants as order
+use Rattle.text_lines.specs.Rows.{rows}
 
 order_faults-refusal : (text : List ℕ) (workers : ℕ) (f : OrderFault)
     → IsOrderRefusal text workers f
@@ -27,8 +25,7 @@ refusal-order_faults text workers (order.NoSuchWorker line) more is = (more, is)
 refusal-order_faults text workers order.TooMany more is = (more, is)
 
 moves_or_refusal : (text : List ℕ) (workers : ℕ) (faults : List OrderFault)
-    → order_faults text workers ≡ faults
-    → ((moves : List ℕ) × HasMoves text workers moves)
+    → order_faults text workers ≡ faults → ((moves : List ℕ) × HasMoves text workers moves)
     ⊎ ((f : OrderFault) × IsOrderRefusal text workers f)
 moves_or_refusal text workers [] is = inl (map (λ row. number row.bytes) (rows text), (is, refl))
 moves_or_refusal text workers (f ∷ more) is = inr (f, refusal-order_faults text workers f more is)
@@ -57,28 +54,23 @@ order_refusal_same text workers f g is_f is_g =
 
 rows-order_limit : (text : List ℕ) (workers : ℕ) → order_faults text workers ≡ []
     → length (rows text) ≤ max_moves
-rows-order_limit text workers none =
-    ⊎_elim
-    (λ (past : max_moves < length (rows text)). let last =
+rows-order_limit text workers none = ⊎_elim (λ (past : max_moves < length (rows text)). let last =
     rows-no_order_fault text workers none max_moves (record { line = 0; bytes = [] }) past in
-    absurd (omega (arith, last.0)))
-    (λ (within : length (rows text) ≤ max_moves). within)
+    absurd (omega (arith, last.0))) (λ (within : length (rows text) ≤ max_moves). within)
     (cases_lt max_moves (length (rows text)))
 
 -- the moves of a text name workers, and are within the limit
 pub All-has_moves : (text : List ℕ) (workers : ℕ) (moves : List ℕ) → HasMoves text workers moves
     → All (λ worker. worker < workers) moves
-All-has_moves text workers moves has =
-    subst (All (λ worker. worker < workers)) (sym has.1)
+All-has_moves text workers moves has = subst (All (λ worker. worker < workers)) (sym has.1)
     (All-map (λ worker. worker < workers) (λ row. number row.bytes) (rows text)
     (λ k d within. (rows-no_order_fault text workers has.0 k d within).1))
 
 pub length-has_moves : (text : List ℕ) (workers : ℕ) (moves : List ℕ) → HasMoves text workers moves
     → length moves ≤ max_moves
-length-has_moves text workers moves has =
-    omega (
-      arith,
-      ap length has.1,
-      length-map (rows text) (λ row. number row.bytes),
-      rows-order_limit text workers has.0,
-    )
+length-has_moves text workers moves has = omega (
+  arith,
+  ap length has.1,
+  length-map (rows text) (λ row. number row.bytes),
+  rows-order_limit text workers has.0,
+)

@@ -1,19 +1,14 @@
 -- The rows of the pairs of launch on capture.
 use Rattle.std.proofs.Common.{◌≡◌, ◌<◌, ◌≤◌, ◌+◌, ◌-◌, ◌*◌, ◌∙◌, ◌⊎◌, ℕ, zero, suc, Bool, List, []}
-use Rattle.std.proofs.Common.{◌∷◌, ◌++◌}
-use Rattle.std.proofs.Common.{ap, arith, drop, get_or, length-drop, inl, inr, length, map, refl}
-use Rattle.std.proofs.Common.{sym, take}
-use Rattle.std.specs.Prelude.{None, Some, slice_get, slice_index_or}
-use Rattle.std.specs.List.{enumerate_from}
-use Rattle.std.proofs.lemmas.Bool.{cases_lt}
+use Rattle.std.proofs.Common.{◌∷◌, ◌++◌, ap, arith, drop, get_or, length-drop, inl, inr, length}
+use Rattle.std.{proofs.Common.{map, refl, sym, take}, specs.List.enumerate_from}
+use Rattle.std.{specs.Prelude.{None, Some, slice_get, slice_index_or}, proofs.lemmas.Bool.cases_lt}
 use Rattle.std.proofs.lemmas.List.{get_or-append-add, get_or-drop, get_or-take, get_or_append_left}
 use Rattle.std.proofs.lemmas.List.{length-append, length-map, length-take-le, map-append}
-use Rattle.std.proofs.lemmas.List.FromFn.{length-enumerate_from}
-use Rattle.std.proofs.Math.Seq.{drop-append_seam}
-use Rattle.bench_net.specs.declared.Sink.{Sink}
-use Rattle.bench_net.specs.declared.Sink.TheVariants as sink
-use Rattle.bench_net.specs.Statement.{Name, Statement}
+use Rattle.std.proofs.{lemmas.List.FromFn.length-enumerate_from, Math.Seq.drop-append_seam}
+use Rattle.bench_net.specs.{declared.Sink.Sink, Statement.{Name, Statement}}
 use Rattle.bench_net.specs.Scan.{cells, inputs, observers, outputs, sources}
+use Rattle.bench_net.specs.declared.Sink.TheVariants as sink
 use Rattle.fault_model.specs.Solution.{Test, shows}
 use Rattle.patterns.specs.Tests.{TestList}
 use Rattle.block_sim.specs.Responses.{AreResponses}
@@ -29,8 +24,7 @@ at_cells ats = map (λ at. (sink.Data at.0, at.1.1)) ats
 
 shown_outputs : (c : List Statement) (v : Name → Bool)
     → length (map (shows None v) (at_outputs (enumerate_from 0 (outputs c)))) ≡ length (outputs c)
-shown_outputs c v =
-    length-map (at_outputs (enumerate_from 0 (outputs c))) (shows None v)
+shown_outputs c v = length-map (at_outputs (enumerate_from 0 (outputs c))) (shows None v)
     ∙ (length-map (enumerate_from 0 (outputs c)) (λ at. (sink.Out at.0, at.1))
     ∙ length-enumerate_from 0 (outputs c))
 
@@ -51,20 +45,17 @@ shown_by_cells c v =
     ∙ (drop-append_seam outs rest ∙ shown_cells v 0 (cells c)))
 
 -- the numbers of sources and observers
-pub source_count : (c : List Statement)
-    → length (sources c) ≡ length (inputs c) + length (cells c)
+pub source_count : (c : List Statement) → length (sources c) ≡ length (inputs c) + length (cells c)
 source_count c = length-append (inputs c) (map (λ cell. cell.0) (cells c))
     ∙ ap (λ n. length (inputs c) + n) (length-map (cells c) (λ cell. cell.0))
 
 pub observer_count : (c : List Statement)
     → length (observers c) ≡ length (outputs c) + length (cells c)
-observer_count c =
-    length-append (at_outputs (enumerate_from 0 (outputs c)))
+observer_count c = length-append (at_outputs (enumerate_from 0 (outputs c)))
     (at_cells (enumerate_from 0 (cells c)))
     ∙ (ap (λ n. n + length (at_cells (enumerate_from 0 (cells c))))
     (length-map (enumerate_from 0 (outputs c)) (λ at. (sink.Out at.0, at.1))
-    ∙ length-enumerate_from 0 (outputs c))
-    ∙ ap (λ n. length (outputs c) + n)
+    ∙ length-enumerate_from 0 (outputs c)) ∙ ap (λ n. length (outputs c) + n)
     (length-map (enumerate_from 0 (cells c)) (λ at. (sink.Data at.0, at.1.1))
     ∙ length-enumerate_from 0 (cells c)))
 
@@ -110,8 +101,7 @@ pub rows_more : (tests shown : List Test) (held from n : ℕ) (pairs more : List
     (first second : Test) → ArePairRows tests shown held from n pairs
     → first ≡ slice_index_or tests n []
     → second ≡ take held (slice_index_or tests n []) ++ drop from (slice_index_or shown n [])
-    → more ≡ (pairs ++ first ∷ []) ++ second ∷ []
-    → ArePairRows tests shown held from (n + 1) more
+    → more ≡ (pairs ++ first ∷ []) ++ second ∷ [] → ArePairRows tests shown held from (n + 1) more
 rows_more tests shown held from n pairs more first second rows first_is second_is is = record {
   count = ap length is ∙ (length-append (pairs ++ first ∷ []) (second ∷ [])
       ∙ (ap (λ k. k + 1) (length-append pairs (first ∷ []))
@@ -173,10 +163,8 @@ are_launch_pairs c tests pairs shown held from held_is from_is answers rows = re
       (answers.each t test v at solves) in
       rows.second t (within tests t test at)
       ∙ ap Some (ap (λ x. take held x ++ drop from (slice_index_or shown.tests t []))
-      (index_is tests t test [] at)
-      ∙ (ap (λ x. take held test ++ drop from x) row
+      (index_is tests t test [] at) ∙ (ap (λ x. take held test ++ drop from x) row
       ∙ (ap (λ k. take k test ++ drop from (map (shows None v) (observers c))) held_is
       ∙ (ap (λ k. take (length (inputs c)) test ++ drop k (map (shows None v) (observers c)))
-      from_is
-      ∙ ap (λ x. take (length (inputs c)) test ++ x) (shown_by_cells c v)))));
+      from_is ∙ ap (λ x. take (length (inputs c)) test ++ x) (shown_by_cells c v)))));
 }

@@ -1,8 +1,7 @@
 -- Files that are cut at a byte: if the byte is there once, there is one way to cut.
 use Rattle.std.proofs.Common.{◌≡◌, ◌≢◌, ◌<◌, ◌≤◌, ◌+◌, ℕ, suc, List, [], ◌∷◌, ◌++◌, length, take}
 use Rattle.std.proofs.Common.{drop, get_or, refl, sym, add-one, arith, subst, length-drop}
-use Rattle.std.proofs.Common.{length-take}
-use Rattle.std.proofs.Math.Seq.{split_at}
+use Rattle.std.proofs.{Common.length-take, Math.Seq.split_at}
 use Rattle.std.proofs.lemmas.List.{get_or-take, get_or-drop}
 use Rattle.part_files.specs.Cut.{IsCutFirst, IsCutLast, Lacks}
 

@@ -1,29 +1,21 @@
 -- The names of a circuit's faults can stand in a part file.
 use Rattle.std.proofs.Common.{◌≡◌, ◌≢◌, ◌+◌, ℕ, Bool, true, false, List, [], ◌∷◌, ◌++◌, refl, ap}
 use Rattle.std.proofs.Common.{subst, inl, inr, ◌⊎◌, IsTrue, Option, Some, None, arith, lit<, map}
-use Rattle.std.specs.Prelude.{codes, decimal, slice_get, unwrap_or}
-use Rattle.std.specs.List.{AllZip, list_all}
+use Rattle.std.specs.{Prelude.{codes, decimal, slice_get, unwrap_or}, List.{AllZip, list_all}}
 use Rattle.std.proofs.lemmas.Bool.{and_parts}
-use Rattle.list_lemmas.proofs.Members.{Among, among_append}
-use Rattle.list_lemmas.proofs.Places.{at_place}
+use Rattle.list_lemmas.proofs.{Members.{Among, among_append}, Places.at_place}
 use Rattle.text_lines.specs.Lines.{lines}
 use Rattle.bench_net.specs.Text.{Token, Word, Open, Close, Equals, IsToken, Spells, is_word_byte}
 use Rattle.bench_net.specs.Statement.{Name, Statement, Input, Output, Gate, Dff, defined}
 use Rattle.bench_net.specs.Reading.{ReadsAs, States, tokens_of_list, statements}
-use Rattle.bench_net.specs.Refusal.{IsAccepted}
-use Rattle.bench_net.specs.Scan.{names, name_of, cells}
-use Rattle.fault_model.specs.declared.Line.{Line}
-use Rattle.fault_model.specs.declared.Line.TheVariants as line
-use Rattle.fault_model.specs.declared.Model.{Model}
+use Rattle.bench_net.specs.{Refusal.IsAccepted, Scan.{names, name_of, cells}}
+use Rattle.fault_model.specs.{declared.Line.Line, declared.Model.Model, Fault.Fault}
 use Rattle.fault_model.specs.declared.Model.TheVariants.{StuckAt, Transition, TransitionPairs}
-use Rattle.fault_model.specs.Fault.{Fault}
-use Rattle.part_files.specs.Cut.{Lacks}
-use Rattle.part_files.specs.PartReading.{IsFaultName}
+use Rattle.fault_model.specs.declared.Line.TheVariants as line
+use Rattle.part_files.{specs.Cut.Lacks, specs.PartReading.IsFaultName, proofs.CutTexts.lacks_append}
+use Rattle.part_files.proofs.{OnePartText.{lacks_literal, lacks_test}, PartWords.lacks_decimal}
 use Rattle.report.specs.Report.{cell_text, defect_text, fault_text, line_text, signal_text}
 use Rattle.report.proofs.Public.{cell_is_named}
-use Rattle.part_files.proofs.CutTexts.{lacks_append}
-use Rattle.part_files.proofs.OnePartText.{lacks_literal, lacks_test}
-use Rattle.part_files.proofs.PartWords.{lacks_decimal}
 
 -- a word of a line is made of word bytes
 spelled_word : (l : List ℕ) (tokens : List Token) (w : List ℕ) → Spells l tokens
@@ -57,8 +49,7 @@ named_word [] [] n each a = absurd a
 named_word [] (s ∷ stated) n each a = absurd each
 named_word (l ∷ ls) [] n each a = absurd each
 named_word (l ∷ ls) (None ∷ stated) n each a = named_word ls stated n each.1 a
-named_word (l ∷ ls) (Some s ∷ stated) n each a =
-    go (λ h. named_word ls stated n each.1 h)
+named_word (l ∷ ls) (Some s ∷ stated) n each a = go (λ h. named_word ls stated n each.1 h)
     (among_append (defined s) (names (statements stated)) n a)
   where
     go : (Among n (names (statements stated)) → IsTrue (list_all is_word_byte n))
@@ -98,8 +89,7 @@ cell_lacks bench c i accepted = go (slice_get (map (λ qd. qd.0) (cells c)) i) r
     go : (o : Option Name) → slice_get (map (λ qd. qd.0) (cells c)) i ≡ o
         → Lacks 10 (unwrap_or o [])
     go None e = tt
-    go (Some q) e =
-        name_lacks bench c q accepted
+    go (Some q) e = name_lacks bench c q accepted
         (cell_is_named c q (at_place (map (λ qd. qd.0) (cells c)) i q e))
 
 -- the name of a line, and its defect
@@ -113,8 +103,7 @@ line_lacks bench c (line.Pin gate pin) accepted =
     lacks_append 10 (codes "pin " ++ signal_text c gate ++ codes " ") (decimal (pin + 1))
     (lacks_append 10 (codes "pin " ++ signal_text c gate) (codes " ")
     (lacks_append 10 (codes "pin ") (signal_text c gate) (lacks_literal 10 (codes "pin ") refl)
-    (signal_lacks bench c gate accepted))
-    (lacks_literal 10 (codes " ") refl))
+    (signal_lacks bench c gate accepted)) (lacks_literal 10 (codes " ") refl))
     (lacks_decimal 10 (pin + 1) (lit< tt))
 line_lacks bench c (line.Data i) accepted =
     lacks_append 10 (codes "data ") (cell_text c i) (lacks_literal 10 (codes "data ") refl)

@@ -1,18 +1,12 @@
 -- The part of a run to which a fault belongs, and what the verdicts of parts state about it.
 use Rattle.std.proofs.Common.{◌≡◌, ◌<◌, ◌%◌, ◌⊎◌, inl, inr, ℕ, List, [], ◌∷◌, ◌++◌, refl, sym, ap}
-use Rattle.std.proofs.Common.{◌∙◌, subst, Some, arith}
-use Rattle.std.specs.Prelude.{Contains, slice_get}
-use Rattle.std.proofs.Math.Nat.{mod-lt}
+use Rattle.std.{proofs.Common.{◌∙◌, subst, Some, arith}, specs.Prelude.{Contains, slice_get}}
+use Rattle.std.proofs.{Math.Nat.mod-lt, lemmas.List.Elements.Contains-append_right}
 use Rattle.std.proofs.lemmas.List.Elements.{Contains-append_cases, Contains-append_left}
-use Rattle.std.proofs.lemmas.List.Elements.{Contains-append_right}
-use Rattle.list_lemmas.proofs.Members.{among, contained}
-use Rattle.list_lemmas.proofs.Places.{place_within, within_place}
-use Rattle.bench_net.specs.Statement.{Statement}
-use Rattle.bench_net.specs.Circuit.{IsWellFormed}
-use Rattle.fault_model.specs.declared.Model.{Model}
-use Rattle.fault_model.specs.Fault.{Fault, faults}
+use Rattle.list_lemmas.proofs.{Members.{among, contained}, Places.{place_within, within_place}}
+use Rattle.bench_net.specs.{Statement.Statement, Circuit.IsWellFormed}
+use Rattle.fault_model.specs.{declared.Model.Model, Fault.{Fault, faults}, Laws.HasClasses}
 use Rattle.fault_model.specs.Collapse.{IsClassOf, representatives}
-use Rattle.fault_model.specs.Laws.{HasClasses}
 use Rattle.block_sim.specs.Parts.{BelongTogether, Parts}
 use Rattle.flat_circuit.specs.Regions.{IsStemOfClass}
 use Rattle.flat_circuit.proofs.Public.{class_has_stem, one_class_stem}
@@ -71,17 +65,15 @@ TellPart m c parts part verdicts = (k : ℕ) (f : Fault) (v : PartVerdict)
 
 from_class : (job : Parts) (parts part class : ℕ) (f : Fault) (v : PartVerdict)
     → HasClasses job.circuit → IsClassOf job.list.model job.circuit f class
-    → IsPartVerdict job parts part class f v
-    → TellsPart job.list.model job.circuit parts part f v
+    → IsPartVerdict job parts part class f v → TellsPart job.list.model job.circuit parts part f v
 from_class job parts part class f (First first) has of is =
     record { class = class; of = of; stem = is.0.0; stem_is = is.0.1; part_is = is.0.2 }
-from_class job parts part class f OtherPart has of is = λ at.
-    is (
-      at.stem,
-      subst (λ k. IsStemOfClass job.list.model job.circuit k at.stem)
-          (one_class job.list.model job.circuit f at.class class has at.of of) at.stem_is,
-      at.part_is,
-    )
+from_class job parts part class f OtherPart has of is = λ at. is (
+  at.stem,
+  subst (λ k. IsStemOfClass job.list.model job.circuit k at.stem)
+      (one_class job.list.model job.circuit f at.class class has at.of of) at.stem_is,
+  at.part_is,
+)
 
 pub part_told : (job : Parts) (parts part : ℕ) (verdicts : List PartVerdict)
     → HasClasses job.circuit → BelongTogether job → ArePartVerdicts job parts part verdicts

@@ -1,15 +1,11 @@
 -- Lemmas on the merge of part files.
 use Rattle.std.proofs.Common.{◌≡◌, ◌≢◌, ◌<◌, ◌≤◌, ◌+◌, ◌⊎◌, ℕ, zero, suc, min, List, [], ◌∷◌, ◌++◌}
 use Rattle.std.proofs.Common.{take, length, get_or, sym, ap, ◌∙◌, inl, inr, arith, below_more}
-use Rattle.std.proofs.Common.{eq-eqb, eqb, true, false, Contains, Some, None}
-use Rattle.std.specs.Prelude.{slice_get}
-use Rattle.std.proofs.Math.Seq.{take-append_seam}
-use Rattle.std.specs.Borrow.{Bor}
-use Rattle.std.proofs.lemmas.List.{ext_get_or, get_or-map, length-map}
-use Rattle.std.proofs.lemmas.Option.{slice_get_past}
-use Rattle.part_files.specs.PartReading.{texts_in}
+use Rattle.std.{proofs.Common.{eq-eqb, eqb, true, false, Contains, Some, None}, specs.Borrow.Bor}
+use Rattle.std.{specs.Prelude.slice_get, proofs.Math.Seq.take-append_seam}
+use Rattle.std.proofs.lemmas.{List.{ext_get_or, get_or-map, length-map}, Option.slice_get_past}
+use Rattle.part_files.specs.{PartReading.texts_in, Merging.{AreJoined, DifferAt, IsJoined}}
 use Rattle.region_runs.specs.declared.parts.PartVerdict.{PartVerdict}
-use Rattle.part_files.specs.Merging.{AreJoined, DifferAt, IsJoined}
 
 -- the verdicts before a place are joined, and the others are as they were
 pub record AreJoinedTo (verdicts others both : List PartVerdict) (n : ℕ) : Type 0 where
@@ -35,10 +31,7 @@ ends zero b = inl (omega arith)
 ends (suc a) zero = inr (omega arith)
 ends (suc a) (suc b) = elim (ends a b) [
   | inl h ↦ inl (omega (arith, h))
-  | inr h ↦ inr (omega (
-    arith,
-    h,
-  ))
+  | inr h ↦ inr (omega (arith, h))
 ]
 
 slice_get_none : {X : Type 0} (xs : List X) (k : ℕ) → slice_get xs k ≡ None → length xs ≤ k
@@ -86,13 +79,11 @@ pub fresh_of : (xs ys : List ℕ) (x : ℕ) → ys ≡ xs
     → ((k d : ℕ) → 0 ≤ k → k < length ys → eqb (get_or ys k d) x ≡ false) → Contains xs x → ⊥
 fresh_of xs ys x same none at =
     let bad : true ≡ false = sym (eq-eqb (get_or ys at.0 x) x (ap (λ l. get_or l at.0 x) same
-    ∙ at.2))
-    ∙ none at.0 x (omega arith) (omega (arith, at.1, ap (λ l. length l) same)) in cc
+    ∙ at.2)) ∙ none at.0 x (omega arith) (omega (arith, at.1, ap (λ l. length l) same)) in cc
 
 -- joined verdicts as a vector holds them
 pub joined_items : (a b ws as_were bs rest : List PartVerdict) (n : ℕ) → AreJoined a b ws
-    → a ≡ as_were → b ≡ bs → n ≡ length ws
-    → AreJoined as_were bs (take n (ws ++ rest))
+    → a ≡ as_were → b ≡ bs → n ≡ length ws → AreJoined as_were bs (take n (ws ++ rest))
 joined_items a b ws as_were bs rest n joined e f len =
     let whole : take n (ws ++ rest) ≡ ws = ap (λ m. take m (ws ++ rest)) len
     ∙ take-append_seam ws rest in

@@ -1,39 +1,32 @@
 -- The only error of a merge of the files of all parts of a run is refused memory.
 use Rattle.std.proofs.Common.{◌≡◌, ◌≢◌, ◌<◌, ◌^◌, ◌+◌, ◌*◌, ◌⊎◌, inl, inr, ℕ, zero, suc, List, []}
 use Rattle.std.proofs.Common.{◌∷◌, ◌++◌, length, get_or, refl, sym, ap, ◌∙◌, subst, Option, Some}
-use Rattle.std.proofs.Common.{arith, lit<, map}
-use Rattle.std.specs.Prelude.{Contains, slice_get}
-use Rattle.std.specs.List.{AllZip}
-use Rattle.std.proofs.lemmas.List.{length-map}
+use Rattle.std.{proofs.Common.{arith, lit<, map}, specs.Prelude.{Contains, slice_get}}
+use Rattle.std.{specs.List.AllZip, proofs.lemmas.List.length-map}
 use Rattle.std.proofs.lemmas.List.Elements.{Contains-append_cases, Contains-append_left}
 use Rattle.std.proofs.lemmas.List.Elements.{Contains-append_right}
 use Rattle.std.proofs.lemmas.Option.{get_or_from_slice_get, slice_get-get_or, slice_get_within}
 use Rattle.list_lemmas.proofs.Members.{Among, among, contained}
 use Rattle.list_lemmas.proofs.Distinct.{Distinct, distinct_from_pairs}
 use Rattle.list_lemmas.proofs.Places.{at_place, place_within, within_place}
-use Rattle.bench_net.specs.Statement.{Statement}
+use Rattle.bench_net.specs.{Statement.Statement, Refusal.IsAccepted}
 use Rattle.bench_net.specs.Circuit.{IsCircuit, IsWellFormed, max_signals, max_sinks}
-use Rattle.bench_net.specs.Refusal.{IsAccepted}
-use Rattle.fault_model.specs.declared.Model.{Model}
-use Rattle.fault_model.specs.Fault.{Fault, faults}
-use Rattle.fault_model.specs.Laws.{HasClasses}
+use Rattle.fault_model.specs.{declared.Model.Model, Fault.{Fault, faults}, Laws.HasClasses}
 use Rattle.fault_model.proofs.Public.{faults_within}
 use Rattle.region_runs.specs.declared.parts.PartVerdict.{PartVerdict}
 use Rattle.region_runs.specs.declared.parts.PartVerdict.TheVariants.{First, OtherPart}
-use Rattle.part_files.specs.declared.joining.MergeFault.{MergeFault}
-use Rattle.part_files.specs.declared.joining.MergeFault.TheVariants as fault
+use Rattle.part_files.specs.{declared.joining.MergeFault.MergeFault, PartText.PartHead}
 use Rattle.part_files.specs.declared.part_reader.PartFault.{PartFault}
 use Rattle.part_files.specs.Merging.{DifferAt, HasParts, HaveBoth, IsEndRefusal, IsFirstMerged}
 use Rattle.part_files.specs.Merging.{IsFirstRefusal, IsJoined, IsMerged, IsMergeRefusal, MergeState}
-use Rattle.part_files.specs.PartReading.{IsPart, IsPartRefusal}
-use Rattle.part_files.specs.PartText.{PartHead}
-use Rattle.report.specs.Report.{fault_text}
+use Rattle.part_files.{specs.PartReading.{IsPart, IsPartRefusal}, proofs.PartRefusals.no_refusal}
 use Rattle.part_files.specs.WholeMerge.{AreAllPartsOf, IsForMemory, IsPartOf, IsLaterRefusal}
 use Rattle.part_files.specs.WholeMerge.{IsRefusedMerge, PartedRun}
 use Rattle.part_files.proofs.FaultParts.{TellPart, TellsSeen, one_part_of, part_told, seen_more}
 use Rattle.part_files.proofs.FaultParts.{seen_one, some_part_of}
 use Rattle.part_files.proofs.MergedReport.{OneCircuit, head_in_run, read_as, told}
-use Rattle.part_files.proofs.PartRefusals.{no_refusal}
+use Rattle.part_files.specs.declared.joining.MergeFault.TheVariants as fault
+use Rattle.report.specs.Report.{fault_text}
 
 -- The state of the merge so far: the first line is the line of the run, and the names are the names
 -- of the circuit's faults. A verdict is open if the fault belongs to no part that is there.
@@ -92,8 +85,7 @@ read_told run part bytes c h names verdicts known of is = record {
     same = read_as run part bytes h names verdicts of is
 
     names_are : names ≡ map (fault_text c) (faults run.model c)
-    names_are =
-        same.1 ∙ ap (λ x. map (fault_text x) (faults run.model x))
+    names_are = same.1 ∙ ap (λ x. map (fault_text x) (faults run.model x))
         (same_circuit run part bytes c known of)
 
 -- the first text
@@ -138,8 +130,7 @@ whole_more run part bytes c old new known of is was = (
         slice_get-get_or is.verdicts k OtherPart (omega (arith, low, read.count)) in
         subst (λ l. TellsSeen run.model c run.parts l f v) (sym seen)
         (seen_more run.model c run.parts old.seen part f (get_or old.verdicts k OtherPart)
-        (get_or is.verdicts k OtherPart) v
-        (was.each k f (get_or old.verdicts k OtherPart) ef a)
+        (get_or is.verdicts k OtherPart) v (was.each k f (get_or old.verdicts k OtherPart) ef a)
         (read.each k f (get_or is.verdicts k OtherPart) ef b)
         (subst (IsJoined (get_or old.verdicts k OtherPart) (get_or is.verdicts k OtherPart)) here
         (is.joined.each k OtherPart within)));
@@ -163,10 +154,8 @@ own_place (x ∷ xs) (suc k) other = own_place xs k other
 
 -- the only error of reading a file of a part is refused memory
 read_refused : (run : PartedRun) (part : ℕ) (bytes : List ℕ) (f : PartFault)
-    → IsPartOf run part bytes → IsPartRefusal bytes f
-    → IsForMemory (fault.Part f)
-read_refused run part bytes f of r =
-    subst (λ x. IsForMemory (fault.Part x))
+    → IsPartOf run part bytes → IsPartRefusal bytes f → IsForMemory (fault.Part f)
+read_refused run part bytes f of r = subst (λ x. IsForMemory (fault.Part x))
     (sym (no_refusal bytes (head_in_run run part)
     (map (fault_text of.text.0.circuit) (faults run.model of.text.0.circuit)) of.text.2.0 f
     (told run part bytes of) r)) tt
@@ -241,16 +230,15 @@ end_refused run c s (fault.Missing number) known is some any was all r =
     absurd (r.4 (all r.0 (subst (λ n. r.0 < n) (ap (λ (h : PartHead). h.parts) was.head) r.2)))
 end_refused run c s fault.NoFault known is some any was all r =
     absurd (omega (arith, any, was.count, ap (λ (l : List PartVerdict). length l) r.1))
-end_refused run c s fault.TooManyFaults known is some any was all r =
-    absurd (omega (
-      arith,
-      faults_within run.model c is,
-      was.count,
-      ap (λ (l : List PartVerdict). length l) r.2,
-      length-map r.1 First,
-      r.3,
-      lit< {m = 2 * (max_signals + max_sinks)} {n = 2 ^ 32} tt,
-    ))
+end_refused run c s fault.TooManyFaults known is some any was all r = absurd (omega (
+  arith,
+  faults_within run.model c is,
+  was.count,
+  ap (λ (l : List PartVerdict). length l) r.2,
+  length-map r.1 First,
+  r.3,
+  lit< {m = 2 * (max_signals + max_sinks)} {n = 2 ^ 32} tt,
+))
 end_refused run c s (fault.NoPart line) known is some any was all r =
     let at : slice_get s.verdicts (length r.1.0) ≡ Some OtherPart =
     ap (λ (l : List PartVerdict). slice_get l (length r.1.0)) r.1.2 ∙ open_place r.1.0 r.1.1 in
@@ -315,12 +303,10 @@ behind_refused run c [] [] old f known is some any was come r =
 behind_refused run c [] (text ∷ texts) old f known is some any was come r = absurd come.each
 behind_refused run c (part ∷ numbers) [] old f known is some any was come r = absurd come.each
 behind_refused run c (part ∷ numbers) (text ∷ texts) old f known is some any was come (inl r) =
-    more_refused run part text c old f known come.each.0 was
-    (come.fresh part (inl refl)) r
+    more_refused run part text c old f known come.each.0 was (come.fresh part (inl refl)) r
 behind_refused run c (part ∷ numbers) (text ∷ texts) old f known is some any was come (inr r) =
     let now = whole_more run part text c old r.0 known come.each.0 r.1 was in
-    behind_refused run c numbers texts r.0 f known is
-    some any now.0
+    behind_refused run c numbers texts r.0 f known is some any now.0
     (subst (λ l. AreToCome run l numbers texts) (sym now.1)
     (one_less run old.seen part numbers text texts come)) r.2
 
@@ -357,8 +343,7 @@ cover part numbers other (inl e) = inl (contained (part ∷ []) other (inl e))
 cover part numbers other (inr later) = inr later
 
 pub merge_refused : OneCircuit → HaveClasses → HaveFaults → (run : PartedRun) (first : List ℕ)
-    (others : List (List ℕ)) (f : MergeFault)
-    → AreAllPartsOf run (first ∷ others)
+    (others : List (List ℕ)) (f : MergeFault) → AreAllPartsOf run (first ∷ others)
     → IsRefusedMerge first others f → IsForMemory f
 merge_refused one classes any run first others f are r =
     go are.numbers are.each (distinct_from_pairs are.numbers are.once) are.all r
@@ -366,8 +351,7 @@ merge_refused one classes any run first others f are r =
     go : (numbers : List ℕ) → AllZip (IsPartOf run) numbers (first ∷ others) → Distinct numbers
         → HasParts numbers run.parts → IsRefusedMerge first others f → IsForMemory f
     go [] each once all r = absurd each
-    go (part ∷ numbers) each once all (inl r) =
-        first_refused run part first f each.0 r
+    go (part ∷ numbers) each once all (inl r) = first_refused run part first f each.0 r
     go (part ∷ numbers) each once all (inr r) =
         let c = each.0.text.0.circuit in
         let is : IsCircuit c = each.0.text.1.2.circuit in

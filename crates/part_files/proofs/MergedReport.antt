@@ -1,41 +1,28 @@
 -- The report of a merge of part files is the report of the files that the parts come from.
 use Rattle.std.proofs.Common.{◌≡◌, ◌<◌, ℕ, suc, List, [], ◌∷◌, All, length, get_or, refl, sym, ap}
 use Rattle.std.proofs.Common.{◌∙◌, ◌++◌, subst, Option, Some, false, true, arith, map, append-nil}
-use Rattle.std.specs.Prelude.{codes, option_map, slice_get}
-use Rattle.std.proofs.lemmas.List.{length-map}
+use Rattle.std.{specs.Prelude.{codes, option_map, slice_get}, proofs.lemmas.List.length-map}
 use Rattle.std.proofs.lemmas.Option.{get_or_from_slice_get, slice_get-get_or, slice_get-map}
 use Rattle.std.proofs.lemmas.Option.{slice_get_within}
-use Rattle.bench_net.specs.Statement.{Statement}
-use Rattle.bench_net.specs.Refusal.{IsAccepted}
-use Rattle.bench_net.specs.Scan.{sources}
-use Rattle.fault_model.specs.declared.Model.{Model}
+use Rattle.bench_net.specs.{Statement.Statement, Refusal.IsAccepted, Scan.sources}
+use Rattle.fault_model.specs.{declared.Model.Model, Fault.{Fault, faults}, Solution.Test}
 use Rattle.fault_model.specs.declared.Model.TheVariants.{StuckAt, Transition, TransitionPairs}
-use Rattle.fault_model.specs.Fault.{Fault, faults}
 use Rattle.fault_model.specs.Collapse.{AreClassesOf, Collapsed}
-use Rattle.fault_model.specs.Solution.{Test}
 use Rattle.patterns.specs.Tests.{HasTests, TestList}
-use Rattle.block_sim.specs.First.{IsFirst}
-use Rattle.block_sim.specs.Parts.{Parts}
+use Rattle.block_sim.specs.{First.IsFirst, Parts.Parts}
 use Rattle.workers.specs.Verdict.{AreFirsts}
-use Rattle.region_runs.specs.declared.parts.PartVerdict.{PartVerdict}
+use Rattle.region_runs.specs.{declared.parts.PartVerdict.PartVerdict, Part.ArePartVerdicts}
 use Rattle.region_runs.specs.declared.parts.PartVerdict.TheVariants.{First, OtherPart}
-use Rattle.region_runs.specs.Part.{ArePartVerdicts}
-use Rattle.report.specs.declared.contents.Lines.{Lines}
-use Rattle.report.specs.declared.contents.Lines.TheVariants.{Omitted}
-use Rattle.job_loading.specs.Jobs.{IsJobOf}
-use Rattle.report.specs.EndToEnd.{IsReportOf}
+use Rattle.report.specs.declared.contents.Lines.{Lines, TheVariants.Omitted}
+use Rattle.report.specs.{EndToEnd.IsReportOf, Report.{class_coverage_line, fault_text, report}}
+use Rattle.report.specs.RunIdentity.{model_name}
+use Rattle.job_loading.specs.{Jobs.IsJobOf, Sums.sum_text}
 use Rattle.part_files.specs.Merging.{AreOfOneRun, IsFirstMerged, IsJoined, IsMerged, IsWholeRun}
-use Rattle.part_files.specs.Merging.{MergedRun, MergeState, report_text}
+use Rattle.part_files.specs.{Merging.{MergedRun, MergeState, report_text}, PartReading.IsPart}
 use Rattle.part_files.specs.WholeMerge.{AreMerged, IsMergeOf, IsPartOf, IsSomePartOf}
 use Rattle.part_files.specs.WholeMerge.{IsSomePartDistinguished, IsDistinguished, PartedRun}
-use Rattle.part_files.specs.PartText.{PartHead, head_of}
-use Rattle.part_files.specs.PartReading.{IsPart}
-use Rattle.report.specs.Report.{class_coverage_line, fault_text, report}
-use Rattle.job_loading.specs.Sums.{sum_text}
-use Rattle.report.specs.RunIdentity.{model_name}
-use Rattle.part_files.proofs.OnePartText.{one_part}
-use Rattle.part_files.proofs.PartPieces.{report_of_texts}
-use Rattle.part_files.proofs.WrittenParts.{first_of_part, part_is}
+use Rattle.part_files.{specs.PartText.{PartHead, head_of}, proofs.OnePartText.one_part}
+use Rattle.part_files.proofs.{PartPieces.report_of_texts, WrittenParts.{first_of_part, part_is}}
 
 -- a text has one circuit
 abbrev pub OneCircuit : Type 0
@@ -78,8 +65,7 @@ pub read_as : (run : PartedRun) (part : ℕ) (bytes : List ℕ) (h : PartHead) (
     → (h ≡ head_in_run run part)
     × (names ≡ map (fault_text of.text.0.circuit) (faults run.model of.text.0.circuit))
     × (verdicts ≡ of.text.2.0)
-read_as run part bytes h names verdicts of is =
-    one_part bytes h (head_in_run run part) names
+read_as run part bytes h names verdicts of is = one_part bytes h (head_in_run run part) names
     (map (fault_text of.text.0.circuit) (faults run.model of.text.0.circuit)) verdicts of.text.2.0
     is (told run part bytes of)
 
@@ -139,18 +125,15 @@ job_of_run run other part to old head job apart is was same of =
     (same_model other.model run.model model) of))
   where
     model : model_name other.model ≡ model_name run.model
-    model =
-        ap (λ (h : PartHead). h.model) (sym was) ∙ sym same.model
+    model = ap (λ (h : PartHead). h.model) (sym was) ∙ sym same.model
         ∙ ap (λ (h : PartHead). h.model) is
 
     bench : sum_text other.bench ≡ sum_text run.bench
-    bench =
-        ap (λ (h : PartHead). h.bench) (sym was) ∙ sym same.bench
+    bench = ap (λ (h : PartHead). h.bench) (sym was) ∙ sym same.bench
         ∙ ap (λ (h : PartHead). h.bench) is
 
     tests : sum_text other.tests ≡ sum_text run.tests
-    tests =
-        ap (λ (h : PartHead). h.tests) (sym was) ∙ sym same.tests
+    tests = ap (λ (h : PartHead). h.tests) (sym was) ∙ sym same.tests
         ∙ ap (λ (h : PartHead). h.tests) is
 
 -- the values of one more file
@@ -182,13 +165,11 @@ sound_more run bytes c tests old new one accepted alike (other, apart, (part, of
     same = read_as other part bytes is.head old.faults is.verdicts of is.part
 
     job : IsJobOf run.model run.bench run.tests of.text.0
-    job =
-        job_of_run run other part was.part old.head is.head of.text.0 apart was.head same.0 is.run
+    job = job_of_run run other part was.part old.head is.head of.text.0 apart was.head same.0 is.run
         of.text.1
 
     long : length is.verdicts ≡ length (faults run.model c)
-    long =
-        sym is.part.lines.same ∙ ap (λ (l : List (List ℕ)). length l) was.faults_are
+    long = sym is.part.lines.same ∙ ap (λ (l : List (List ℕ)). length l) was.faults_are
         ∙ length-map (faults run.model c) (fault_text c)
 
     joined : (k : ℕ) (f : Fault) (first : Option ℕ) → slice_get (faults run.model c) k ≡ Some f
@@ -224,8 +205,7 @@ firsts_are : (run : PartedRun) (c : List Statement) (tests : List Test) (s : Mer
 firsts_are run c tests s merged sound whole = record {
   count = sym (length-map merged.firsts First)
       ∙ ap (λ (l : List PartVerdict). length l) (sym whole.verdicts) ∙ sound.count;
-  first = λ i f first ef ev.
-      sound.each i f first ef
+  first = λ i f first ef ev. sound.each i f first ef
       (ap (λ (l : List PartVerdict). slice_get l i) whole.verdicts
       ∙ slice_get-map First merged.firsts i ∙ ap (option_map First) ev);
 }

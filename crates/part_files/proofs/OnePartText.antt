@@ -1,16 +1,13 @@
 -- A part file is read in one way.
 use Rattle.std.proofs.Common.{◌≡◌, ◌≢◌, ◌+◌, ◌==◌, ℕ, Bool, true, false, List, [], ◌∷◌, ◌++◌}
 use Rattle.std.proofs.Common.{length, refl, sym, ap, inl, inr, ◌∙◌, append_assoc, append-nil, arith}
-use Rattle.std.proofs.Common.{subst, lit<}
+use Rattle.std.{proofs.Common.{subst, lit<}, specs.List.AllByRecursion}
 use Rattle.std.specs.Prelude.{codes, decimal, zip, flat_map, count_by, Some, None, if◌then◌else◌}
-use Rattle.std.specs.List.{AllByRecursion}
-use Rattle.std.proofs.lemmas.List.{append_cancel_left}
-use Rattle.std.proofs.lemmas.Bool.{cases_Bool, eq-eqb}
+use Rattle.std.proofs.lemmas.{List.append_cancel_left, Bool.{cases_Bool, eq-eqb}}
 use Rattle.region_runs.specs.declared.parts.PartVerdict.{PartVerdict}
 use Rattle.region_runs.specs.declared.parts.PartVerdict.TheVariants.{First, OtherPart}
-use Rattle.part_files.specs.Cut.{Lacks}
+use Rattle.part_files.specs.{Cut.Lacks, PartText.verdict_text}
 use Rattle.part_files.specs.PartText.{PartHead, end_line, head_line, is_found, is_own, verdict_line}
-use Rattle.part_files.specs.PartText.{verdict_text}
 use Rattle.part_files.specs.PartReading.{IsHead, IsLine, IsPart, IsVerdict, WordTexts, words_text}
 use Rattle.part_files.proofs.CutTexts.{cut_last, cut_once, lacks_append}
 use Rattle.part_files.proofs.PartWords.{bench_on, lacks_byte, lacks_decimal, next_field, rule_on}
@@ -56,8 +53,7 @@ head_lacks h ok =
     let parts = field_without 10 (codes "of ") (decimal h.parts) _
     (lacks_literal 10 (codes "of ") refl) (lacks_decimal 10 h.parts (lit< tt)) blank model in
     field_without 10 (codes "part ") (decimal (h.part + 1)) _
-    (lacks_literal 10 (codes "part ") refl)
-    (lacks_decimal 10 (h.part + 1) (lit< tt)) blank parts
+    (lacks_literal 10 (codes "part ") refl) (lacks_decimal 10 (h.part + 1) (lit< tt)) blank parts
 
 -- words belong to one first line
 pub words_once : (w v : WordTexts) → (Lacks 32 w.model × Lacks 32 w.rule × Lacks 32 w.bench)
@@ -161,8 +157,7 @@ same_pair : (at to : List ℕ × PartVerdict) → at.0 ≡ to.0 → at.1 ≡ to.
 same_pair at to e f = sym (pair_is at) ∙ (rw (e, f) refl ∙ pair_is to)
 
 pub line_once : (at to : List ℕ × PartVerdict) (rest more : List ℕ) → IsLine at → IsLine to
-    → verdict_line at ++ rest ≡ verdict_line to ++ more
-    → (at ≡ to) × (rest ≡ more)
+    → verdict_line at ++ rest ≡ verdict_line to ++ more → (at ≡ to) × (rest ≡ more)
 line_once at to rest more p q e =
     let cut = cut_once 10 (line_body at) rest (line_body to) more (line_lacks at p)
     (line_lacks to q) (sym (split_line at rest) ∙ (e ∙ split_line to more)) in
@@ -202,8 +197,7 @@ before_space [] rest more e front = absurd (differs 32 112 _ _ refl e)
 before_space (a ∷ []) rest more e front = absurd (differs 32 97 _ _ refl (cons_tail a 112 _ _ e))
 before_space (a ∷ b ∷ []) rest more e front =
     absurd (differs 32 114 _ _ refl (cons_tail b 97 _ _ (cons_tail a 112 _ _ e)))
-before_space (a ∷ b ∷ c ∷ []) rest more e front =
-    absurd (differs 32 116 _ _ refl
+before_space (a ∷ b ∷ c ∷ []) rest more e front = absurd (differs 32 116 _ _ refl
     (cons_tail c 114 _ _ (cons_tail b 97 _ _ (cons_tail a 112 _ _ e))))
 before_space (a ∷ b ∷ c ∷ d ∷ []) rest more e front = cc
 before_space (a ∷ b ∷ c ∷ d ∷ f ∷ name) rest more e front =
@@ -213,20 +207,17 @@ before_space (a ∷ b ∷ c ∷ d ∷ f ∷ name) rest more e front =
 
 -- the line of a fault is no last line
 pub not_end : (at : List ℕ × PartVerdict) (part parts found own : ℕ) (rest more : List ℕ)
-    → IsLine at
-    → verdict_line at ++ rest ≢ end_line part parts found own ++ more
+    → IsLine at → verdict_line at ++ rest ≢ end_line part parts found own ++ more
 not_end at part parts found own rest more ok e =
     let left : at.0 ++ 32 ∷ (verdict_text at.1 ++ 10 ∷ rest) ≡ verdict_line at
     ++ rest = simp append_assoc in
-    let after : List ℕ = codes "of "
-    ++ (decimal parts ++ (codes ": "
+    let after : List ℕ = codes "of " ++ (decimal parts ++ (codes ": "
     ++ (decimal found ++ (codes " of " ++ (decimal own ++ 10 ∷ more))))) in
     let right : end_line part parts found own ++ more ≡ codes "part "
     ++ (decimal (part + 1) ++ 32 ∷ after) = simp append_assoc in
     let same = before_space at.0 _ _ (left ∙ (e ∙ right)) ok.name.no_end in
     two_bytes 10 32 (verdict_text at.1) rest (decimal (part + 1)) after (λ f. omega (arith, f))
-    (lacks_verdict 32 at.1 (lit< tt))
-    (lacks_decimal 10 (part + 1) (lit< tt)) same
+    (lacks_verdict 32 at.1 (lit< tt)) (lacks_decimal 10 (part + 1) (lit< tt)) same
 
 -- the lines of faults up to a last line are read in one way
 pub lines_once : (ps qs : List (List ℕ × PartVerdict)) (part parts a b c d : ℕ) (rest more : List ℕ)
@@ -290,7 +281,6 @@ one_part text h k faults others verdicts more p q =
     let other : qs ++ end_line k.part k.parts c d ≡ qs ++ end_line h.part h.parts c d =
     ap (λ (g : PartHead). qs ++ end_line g.part g.parts c d) (sym head.0) in
     let pairs = lines_once (zip faults verdicts) (zip others more) h.part h.parts a b c d [] []
-    p.lines.each q.lines.each
-    (left ∙ (head.1 ∙ (other ∙ sym right))) in
+    p.lines.each q.lines.each (left ∙ (head.1 ∙ (other ∙ sym right))) in
     let lists = zip_once faults others verdicts more p.lines.same q.lines.same pairs in
     (head.0, lists.0, lists.1)

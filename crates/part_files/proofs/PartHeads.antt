@@ -1,11 +1,8 @@
 -- The first line of a part file.
 use Rattle.std.proofs.Common.{◌≡◌, ◌≢◌, ◌<◌, ◌^◌, ◌+◌, ℕ, List, ◌∷◌, ◌++◌, refl, sym, ap, ◌∙◌}
-use Rattle.std.proofs.Common.{append_assoc, arith, lit<}
-use Rattle.std.specs.Prelude.{codes, decimal, length}
-use Rattle.std.proofs.lemmas.List.{append_cancel_right}
-use Rattle.std.proofs.lemmas.Fmt.{decimal_injective, decimal_nonempty}
-use Rattle.part_files.specs.Cut.{Lacks}
-use Rattle.part_files.specs.PartText.{PartHead, head_line}
+use Rattle.std.{proofs.Common.{append_assoc, arith, lit<}, specs.Prelude.{codes, decimal, length}}
+use Rattle.std.proofs.lemmas.{List.append_cancel_right, Fmt.{decimal_injective, decimal_nonempty}}
+use Rattle.part_files.specs.{Cut.Lacks, PartText.{PartHead, head_line}}
 use Rattle.part_files.specs.PartReading.{AreWords, IsHead, WordTexts, words_text}
 use Rattle.part_files.proofs.PartWords.{lacks_decimal, next_field}
 
@@ -52,16 +49,14 @@ first_field h line word rest ok e lacks f =
     (small_part h) f (body_of h line e)
 
 pub second_field : (h : PartHead) (text word rest : List ℕ) → IsHead h → text ≡ of_on h
-    → Lacks 32 word
-    → text ≡ codes "of " ++ (word ++ 32 ∷ rest) → (word ≡ decimal h.parts)
+    → Lacks 32 word → text ≡ codes "of " ++ (word ++ 32 ∷ rest) → (word ≡ decimal h.parts)
     × (rest ≡ words_text (words_in_head h))
 second_field h text word rest ok e lacks f = next_field (codes "of ") word rest (decimal h.parts)
     (words_text (words_in_head h)) text lacks (small_parts h) f e
 
 pub no_first : (h : PartHead) (line : List ℕ) → IsHead h
     → ((word rest : List ℕ) → 0 < length word → Lacks 32 word
-    → line ≢ codes "part " ++ (word ++ 32 ∷ rest))
-    → line ++ codes "\n" ≢ head_line h
+    → line ≢ codes "part " ++ (word ++ 32 ∷ rest)) → line ++ codes "\n" ≢ head_line h
 no_first h line ok none e = let more : 2 ^ 32 < 2 ^ 64 = lit< tt in
     none (decimal (h.part + 1)) (of_on h)
     (decimal_nonempty (h.part + 1) (omega (arith, ok.below, ok.few, more))) (small_part h)
@@ -69,8 +64,7 @@ no_first h line ok none e = let more : 2 ^ 32 < 2 ^ 64 = lit< tt in
 
 pub no_second : (h : PartHead) (text : List ℕ) → IsHead h
     → ((word rest : List ℕ) → 0 < length word → Lacks 32 word
-    → text ≢ codes "of " ++ (word ++ 32 ∷ rest))
-    → text ≢ of_on h
+    → text ≢ codes "of " ++ (word ++ 32 ∷ rest)) → text ≢ of_on h
 no_second h text ok none e = let more : 2 ^ 32 < 2 ^ 64 = lit< tt in
     none (decimal h.parts) (words_text (words_in_head h))
     (decimal_nonempty h.parts (omega (arith, ok.few, more))) (small_parts h) e
@@ -79,8 +73,7 @@ no_second h text ok none e = let more : 2 ^ 32 < 2 ^ 64 = lit< tt in
 pub head_read : (h : PartHead) (line r1 r2 part parts : List ℕ) → h.part < h.parts
     → h.parts < 2 ^ 32 → AreWords (words_in_head h)
     → line ≡ codes "part " ++ (part ++ 32 ∷ r1) → r1 ≡ codes "of " ++ (parts ++ 32 ∷ r2)
-    → r2 ≡ words_text (words_in_head h)
-    → part ≡ decimal (h.part + 1) → parts ≡ decimal h.parts
+    → r2 ≡ words_text (words_in_head h) → part ≡ decimal (h.part + 1) → parts ≡ decimal h.parts
     → IsHead h × (line ++ codes "\n" ≡ head_line h)
 head_read h line r1 r2 part parts below few words e1 e2 e3 p q =
     let body : line ≡ head_body h = e1 ∙ rw (p, e2, q, e3) refl in (

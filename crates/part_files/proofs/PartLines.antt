@@ -1,15 +1,12 @@
 -- The lines of faults in a part file, and its last line.
 use Rattle.std.proofs.Common.{◌≡◌, ◌≢◌, ◌<◌, ◌+◌, ℕ, List, [], ◌∷◌, ◌++◌, refl, sym, ap, ◌∙◌}
 use Rattle.std.proofs.Common.{append_assoc, append-nil, arith, subst, lit<}
-use Rattle.std.specs.Prelude.{codes, decimal, Some, None}
-use Rattle.std.proofs.lemmas.List.{append_cancel_right}
+use Rattle.std.{specs.Prelude.{codes, decimal, Some, None}, proofs.lemmas.List.append_cancel_right}
 use Rattle.region_runs.specs.declared.parts.PartVerdict.{PartVerdict}
 use Rattle.region_runs.specs.declared.parts.PartVerdict.TheVariants.{First, OtherPart}
-use Rattle.part_files.specs.Cut.{IsCutLast, Lacks}
+use Rattle.part_files.specs.{Cut.{IsCutLast, Lacks}, PartReading.{IsLine, IsVerdict}}
 use Rattle.part_files.specs.PartText.{end_line, verdict_line, verdict_text}
-use Rattle.part_files.specs.PartReading.{IsLine, IsVerdict}
-use Rattle.part_files.proofs.CutTexts.{cut_last, lacks_left}
-use Rattle.part_files.proofs.PartWords.{lacks_decimal}
+use Rattle.part_files.proofs.{CutTexts.{cut_last, lacks_left}, PartWords.lacks_decimal}
 
 -- a verdict has no space and no line feed
 pub lacks_verdict : (byte : ℕ) (v : PartVerdict) → byte < 45 → Lacks byte (verdict_text v)
@@ -57,8 +54,7 @@ line_read name word line v lacks cut front verdict = (
 )
 
 -- the last line by its pieces
-regrouped : (a b c d : List ℕ)
-    → (codes "part " ++ (a ++ (codes " of "
+regrouped : (a b c d : List ℕ) → (codes "part " ++ (a ++ (codes " of "
     ++ (b ++ (codes ": " ++ (c ++ (codes " of " ++ (d ++ [])))))))) ++ codes "\n"
     ≡ codes "part " ++ a ++ codes " of " ++ b ++ codes ": " ++ c ++ codes " of " ++ d ++ codes "\n"
 regrouped a b c d = simp (append_assoc, append-nil)

@@ -1,10 +1,8 @@
 -- The pieces of a part file make the file.
 use Rattle.std.proofs.Common.{◌≡◌, ◌+◌, ◌∙◌, ℕ, List, [], ◌∷◌, ◌++◌, append_assoc, map, refl, ap}
-use Rattle.std.specs.Prelude.{Option, codes, decimal, zip}
-use Rattle.std.specs.List.{flat_map}
+use Rattle.std.specs.{Prelude.{Option, codes, decimal, zip}, List.flat_map}
 use Rattle.bench_net.specs.Statement.{Statement}
-use Rattle.fault_model.specs.declared.Model.{Model}
-use Rattle.fault_model.specs.Fault.{Fault, faults}
+use Rattle.fault_model.specs.{declared.Model.Model, Fault.{Fault, faults}}
 use Rattle.region_runs.specs.declared.parts.PartVerdict.{PartVerdict}
 use Rattle.report.specs.declared.contents.Lines.{Lines}
 use Rattle.report.specs.Report.{fault_text, report, wanted_line, wanted_name}
@@ -13,8 +11,7 @@ use Rattle.part_files.specs.PartText.{PartHead, head_line, part_line, verdict_li
 
 -- the first line from its words, given as texts
 pub head_text : (h : PartHead) (part parts : List ℕ) → part ≡ decimal (h.part + 1)
-    → parts ≡ decimal h.parts
-    → codes "part " ++ (part ++ (codes " of "
+    → parts ≡ decimal h.parts → codes "part " ++ (part ++ (codes " of "
     ++ (parts ++ (codes " model " ++ (h.model ++ (codes " rule " ++ (h.rule
     ++ (codes " bench " ++ (h.bench ++ (codes " tests " ++ (h.tests ++ (codes "\n" ++ []))))))))))))
     ≡ head_line h
@@ -40,8 +37,7 @@ pub lines_of_model : (m : Model) (c : List Statement) (fs : List Fault)
     (verdicts : List PartVerdict) → fs ≡ faults m c
     → flat_map (part_line c) (zip fs verdicts) ≡ flat_map verdict_line
     (zip (map (fault_text c) (faults m c)) verdicts)
-lines_of_model m c fs verdicts list =
-    lines_of_texts c fs verdicts ∙ ap
+lines_of_model m c fs verdicts list = lines_of_texts c fs verdicts ∙ ap
     (λ l. flat_map verdict_line (zip (map (fault_text c) l) verdicts)) list
 
 -- the same for the lines of a report

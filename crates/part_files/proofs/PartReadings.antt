@@ -1,16 +1,12 @@
 -- A part file read line by line.
 use Rattle.std.proofs.Common.{◌≡◌, ◌≢◌, ◌<◌, ◌≤◌, ◌+◌, ◌==◌, ℕ, zero, suc, true, false, List, []}
 use Rattle.std.proofs.Common.{◌∷◌, ◌++◌, length, refl, sym, ap, ◌∙◌, append_assoc, append-nil}
-use Rattle.std.proofs.Common.{arith, subst, length-append, inl, inr}
-use Rattle.std.specs.Prelude.{codes, zip, flat_map}
-use Rattle.std.specs.List.{AllByRecursion}
-use Rattle.std.proofs.lemmas.Grind.{flat_map-append}
+use Rattle.std.{proofs.Common.{arith, subst, length-append, inl, inr}, specs.List.AllByRecursion}
+use Rattle.std.{specs.Prelude.{codes, zip, flat_map}, proofs.lemmas.Grind.flat_map-append}
 use Rattle.region_runs.specs.declared.parts.PartVerdict.{PartVerdict}
-use Rattle.part_files.specs.Cut.{IsCutFirst}
-use Rattle.part_files.specs.PartText.{PartHead, head_line, verdict_line}
-use Rattle.part_files.specs.PartReading.{HasMore, IsBadHead, IsBadLine, IsBegun, IsHead}
-use Rattle.part_files.specs.PartReading.{IsEndFault, IsLine, IsNoFaultLine, IsPart, IsPartRefusal}
-use Rattle.part_files.specs.PartReading.{end_of}
+use Rattle.part_files.specs.{Cut.IsCutFirst, PartText.{PartHead, head_line, verdict_line}}
+use Rattle.part_files.specs.PartReading.{HasMore, IsBadHead, IsBadLine, IsBegun, IsHead, IsEndFault}
+use Rattle.part_files.specs.PartReading.{IsLine, IsNoFaultLine, IsPart, IsPartRefusal, end_of}
 use Rattle.part_files.specs.declared.part_reader.PartFault.{PartFault}
 
 -- a list of pairs with one more pair
@@ -44,8 +40,7 @@ begun_more text h faults verdicts rest line after name v begun cut ok e =
     let one : List ℕ = verdict_line (name, v) in
     let assoc : (lines ++ one) ++ after ≡ lines ++ (one ++ after) = append_assoc lines one after in
     let grown : flat_map verdict_line (zip (faults ++ name ∷ []) (verdicts ++ v ∷ [])) ≡ lines
-    ++ one =
-    ap (λ l. flat_map verdict_line l) pairs
+    ++ one = ap (λ l. flat_map verdict_line l) pairs
     ∙ (flat_map-append verdict_line (zip faults verdicts) ((name, v) ∷ [])
     ∙ ap (λ l. lines ++ l) (append-nil one)) in
     record {
@@ -104,8 +99,7 @@ has_more text h faults verdicts after begun some = record {
 pub bad_line : (text : List ℕ) (h : PartHead) (faults : List (List ℕ)) (verdicts : List PartVerdict)
     (rest line after : List ℕ)
     → IsBegun text h faults verdicts rest → IsCutFirst 10 rest line after → IsNoFaultLine line
-    → line ++ codes "\n" ≢ end_of h verdicts
-    → IsBadLine text (length faults)
+    → line ++ codes "\n" ≢ end_of h verdicts → IsBadLine text (length faults)
 bad_line text h faults verdicts rest line after begun cut none last = record {
   head = h;
   faults = faults;
@@ -139,8 +133,7 @@ pub record Reading (text : List ℕ) (h : PartHead) (faults : List (List ℕ))
 
 pub reading_more : (text : List ℕ) (h : PartHead) (faults more : List (List ℕ))
     (verdicts others : List PartVerdict) (rest line after name : List ℕ) (v : PartVerdict)
-    (number : ℕ)
-    → Reading text h faults verdicts rest number → IsCutFirst 10 rest line after
+    (number : ℕ) → Reading text h faults verdicts rest number → IsCutFirst 10 rest line after
     → IsLine (name, v) × (line ++ codes "\n" ≡ verdict_line (name, v))
     → more ≡ faults ++ name ∷ [] → others ≡ verdicts ++ v ∷ []
     → Reading text h more others after (number + 1)

@@ -2,30 +2,24 @@
 use Rattle.std.proofs.Common.{◌≡◌, ◌+◌, ℕ, List, [], ◌∷◌, ◌++◌, length, refl, sym, ap, ◌∙◌, inl}
 use Rattle.std.proofs.Common.{inr, append_assoc, append-nil, length-append, arith, subst, lit<}
 use Rattle.std.specs.Prelude.{codes, decimal, zip, flat_map, count_by, Result, Ok, Err, IfOk, IfErr}
-use Rattle.std.specs.Prelude.{MatchResult}
-use Rattle.std.specs.List.{AllByRecursion}
+use Rattle.std.specs.{Prelude.MatchResult, List.AllByRecursion}
 use Rattle.std.proofs.lemmas.List.{append_cancel_left}
 use Rattle.region_runs.specs.declared.parts.PartVerdict.{PartVerdict}
-use Rattle.part_files.specs.declared.part_reader.PartText.{PartText as Read}
-use Rattle.part_files.specs.declared.part_reader.PartFault.{PartFault}
+use Rattle.part_files.specs.declared.part_reader.{PartText.PartText as Read, PartFault.PartFault}
 use Rattle.part_files.specs.declared.part_reader.PartFault.TheVariants.{NotAPart, CutOff, Memory}
-use Rattle.part_files.specs.Cut.{Lacks}
+use Rattle.part_files.{specs.Cut.Lacks, proofs.CutTexts.{cut_once, lacks_append, lacks_not}}
 use Rattle.part_files.specs.PartText.{PartHead, end_line, head_line, is_found, is_own, verdict_line}
 use Rattle.part_files.specs.PartReading.{HasMore, IsBadHead, IsBadLine, IsCutLines, IsLine, IsBegun}
 use Rattle.part_files.specs.PartReading.{IsPart, IsPartRefusal, end_of, head_in, texts_in}
-use Rattle.part_files.proofs.CutTexts.{cut_once, lacks_append, lacks_not}
-use Rattle.part_files.proofs.PartWords.{lacks_decimal}
-use Rattle.part_files.proofs.PartHeads.{head_body, head_line_is}
+use Rattle.part_files.proofs.{PartWords.lacks_decimal, PartHeads.{head_body, head_line_is}}
 use Rattle.part_files.proofs.PartLines.{line_body, verdict_line_is}
 use Rattle.part_files.proofs.OnePartText.{head_lacks, head_once, lacks_literal, lacks_test}
-use Rattle.part_files.proofs.OnePartText.{line_lacks}
-use Rattle.part_files.proofs.OnePartText.{line_once, lines_once, not_end, one_part, split_line}
-use Rattle.part_files.proofs.OnePartText.{zip_once}
+use Rattle.part_files.proofs.OnePartText.{line_lacks, line_once, lines_once, not_end, one_part}
+use Rattle.part_files.proofs.OnePartText.{split_line, zip_once}
 
 -- the last line without its line feed
 abbrev end_body : ℕ → ℕ → ℕ → ℕ → List ℕ
-end_body part parts found own = codes "part "
-    ++ (decimal (part + 1) ++ (codes " of "
+end_body part parts found own = codes "part " ++ (decimal (part + 1) ++ (codes " of "
     ++ (decimal parts ++ (codes ": " ++ (decimal found ++ (codes " of " ++ decimal own))))))
 
 end_line_is : (part parts found own : ℕ) → end_body part parts found own
@@ -84,11 +78,6 @@ lacks_no_line text h faults verdicts p lacks =
     ap (λ l. l ++ rest) (sym (head_line_is h)) ∙ append_assoc (head_body h) (codes "\n") rest in
     lacks_not 10 (head_body h) rest (subst (λ l. Lacks 10 l) (p.whole ∙ left) lacks)
 
-split_end : (part parts a b : ℕ) (rest : List ℕ) → end_line part parts a b
-    ++ rest ≡ end_body part parts a b ++ 10 ∷ rest
-split_end part parts a b rest = ap (λ l. l ++ rest) (sym (end_line_is part parts a b))
-    ∙ append_assoc (end_body part parts a b) (codes "\n") rest
-
 -- a beginning of the same file: the same first line, and some of the lines
 record Shared (h k : PartHead) (ps qs : List (List ℕ × PartVerdict)) (last r : List ℕ) : Type 0
   where
@@ -105,16 +94,14 @@ shared : (text : List ℕ) (h k : PartHead) (faults others : List (List ℕ))
 shared text h k faults others verdicts ws r p q =
     let head = head_once h k _ _ p.head q.head (sym p.whole ∙ q.whole) in
     let rest = rest_of (zip faults verdicts) (zip others ws) h.part h.parts
-    (count_by is_found verdicts) (count_by is_own verdicts) r p.lines.each q.lines.each
-    head.1 in
+    (count_by is_found verdicts) (count_by is_own verdicts) r p.lines.each q.lines.each head.1 in
     record { head = head.0; more = rest.0; lines = rest.1; each = rest.2; rest = rest.3 }
 
 same_end : (h k : PartHead) (vs ws : List PartVerdict) → h ≡ k → vs ≡ ws → end_of h vs ≡ end_of k ws
 same_end h k vs ws e f = ap (λ (g : PartHead). end_of g vs) e ∙ ap (λ l. end_of k l) f
 
 not_bad_line : (text : List ℕ) (h : PartHead) (faults : List (List ℕ)) (verdicts : List PartVerdict)
-    (count : ℕ)
-    → IsPart text h faults verdicts → IsBadLine text count → ⊥
+    (count : ℕ) → IsPart text h faults verdicts → IsBadLine text count → ⊥
 not_bad_line text h faults verdicts count p b =
     bad_rest (shared text h b.head faults b.faults verdicts b.verdicts _ p b.begun)
   where
@@ -131,8 +118,7 @@ not_bad_line text h faults verdicts count p b =
             let cut = cut_once 10 (end_body h.part h.parts (count_by is_found verdicts)
             (count_by is_own verdicts)) [] b.line b.more
             (end_lacks h.part h.parts _ _) b.one_line (end_line_is h.part h.parts _ _ ∙ e) in
-            b.no_end (ap (λ l. l ++ codes "\n") (sym cut.0)
-            ∙ (end_line_is h.part h.parts _ _
+            b.no_end (ap (λ l. l ++ codes "\n") (sym cut.0) ∙ (end_line_is h.part h.parts _ _
             ∙ same_end h b.head verdicts b.verdicts s.head lists.1))
         tail_bad (x ∷ more) same each e =
             let cut = cut_once 10 (line_body x) _ b.line b.more (line_lacks x each.0) b.one_line
@@ -151,8 +137,7 @@ not_cut_lines text h faults verdicts p b =
     tail_cut [] r e lacks = lacks_not 10 (end_body h.part h.parts (count_by is_found verdicts)
         (count_by is_own verdicts)) []
         (subst (λ l. Lacks 10 l) (sym e ∙ sym (end_line_is h.part h.parts _ _)) lacks)
-    tail_cut (x ∷ more) r e lacks = lacks_not 10 (line_body x) _
-        (subst (λ l. Lacks 10 l) (sym e
+    tail_cut (x ∷ more) r e lacks = lacks_not 10 (line_body x) _ (subst (λ l. Lacks 10 l) (sym e
         ∙ (append_assoc (verdict_line x) (flat_map verdict_line more) (end_of h verdicts)
         ∙ split_line x _)) lacks)
 
@@ -169,8 +154,7 @@ not_more text h faults verdicts count p b =
     let pairs = lines_once (zip faults verdicts) (zip b.faults b.verdicts) h.part h.parts
     (count_by is_found verdicts) (count_by is_own verdicts)
     (count_by is_found b.verdicts) (count_by is_own b.verdicts) [] b.more p.lines.each
-    b.begun.lines.each
-    (left ∙ (head.1 ∙ right)) in
+    b.begun.lines.each (left ∙ (head.1 ∙ right)) in
     let lists = zip_once faults b.faults verdicts b.verdicts p.lines.same b.begun.lines.same
     pairs in
     let lasts : ps ++ end_of h verdicts ≡ ps ++ (end_of h verdicts ++ b.more) =
@@ -204,8 +188,7 @@ no_refusal text h faults verdicts Memory p r = refl
 pub read_exactly : (text : List ℕ) (h : PartHead) (faults : List (List ℕ))
     (verdicts : List PartVerdict) (r : Result Read PartFault)
     → IfOk r (λ part. IsPart text (head_in part.header) (texts_in part.faults.items)
-    part.verdicts.items) → IfErr r (IsPartRefusal text)
-    → IsPart text h faults verdicts
+    part.verdicts.items) → IfErr r (IsPartRefusal text) → IsPart text h faults verdicts
     → MatchResult r (λ part. (head_in part.header ≡ h) × (texts_in part.faults.items ≡ faults)
     × (part.verdicts.items ≡ verdicts)) (λ fault. fault ≡ Memory)
 read_exactly text h faults verdicts (Ok part) read refused p =

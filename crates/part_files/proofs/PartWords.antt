@@ -1,17 +1,12 @@
 -- The words of a part file's first line.
 use Rattle.std.proofs.Common.{◌≡◌, ◌≢◌, ◌<◌, ◌^◌, ◌+◌, ◌/◌, ◌%◌, ◌==◌, ℕ, zero, suc, Bool, true}
 use Rattle.std.proofs.Common.{false, List, [], ◌∷◌, ◌++◌, refl, sym, ap, ◌∙◌, arith, subst, lit<}
-use Rattle.std.specs.Prelude.{codes, decimal, if◌then◌else◌, length}
-use Rattle.std.specs.Fmt.{digit_glyph, digits, digits_onto}
-use Rattle.std.proofs.Math.Dec.{eqb}
-use Rattle.std.proofs.lemmas.Bool.Decides.{Decides-eqb, nat_tests}
+use Rattle.std.{specs.Prelude.{codes, decimal, if◌then◌else◌, length}, proofs.Math.Dec.eqb}
+use Rattle.std.specs.{Fmt.{digit_glyph, digits, digits_onto}, Str.IsUtf8}
+use Rattle.std.proofs.lemmas.{Bool.Decides.{Decides-eqb, nat_tests}, Fmt.IsAscii-decimal}
+use Rattle.std.proofs.lemmas.{Str.IsUtf8-from_ascii, List.append_cancel_left}
 use lib.Pointwise.{pointwise, pointwise_decides}
-use Rattle.std.specs.Str.{IsUtf8}
-use Rattle.std.proofs.lemmas.Fmt.{IsAscii-decimal}
-use Rattle.std.proofs.lemmas.Str.{IsUtf8-from_ascii}
-use Rattle.std.proofs.lemmas.List.{append_cancel_left}
-use Rattle.part_files.specs.Cut.{IsCutFirst, Lacks}
-use Rattle.part_files.specs.PartReading.{AreWords, WordTexts, words_text}
+use Rattle.part_files.specs.{Cut.{IsCutFirst, Lacks}, PartReading.{AreWords, WordTexts, words_text}}
 use Rattle.part_files.proofs.CutTexts.{cut_once, lacks_left, lacks_right, lacks_not}
 
 -- a number of any size has only digits
@@ -21,8 +16,7 @@ glyph_is d h = grind (arith, nat_tests)
 lacks_onto : (byte k n : ℕ) (acc : List ℕ) → ((d : ℕ) → d < 10 → 48 + d ≢ byte) → Lacks byte acc
     → Lacks byte (digits_onto k 10 false n acc)
 lacks_onto byte zero n acc other lacks = lacks
-lacks_onto byte (suc k) n acc other lacks =
-    go glyph
+lacks_onto byte (suc k) n acc other lacks = go glyph
     (lacks_onto byte k (n / 10) (digit_glyph false (n % 10) ∷ acc) other (glyph, lacks))
     (n / 10 == 0)
   where
@@ -33,8 +27,7 @@ lacks_onto byte (suc k) n acc other lacks =
 
     go : digit_glyph false (n % 10) ≢ byte
         → Lacks byte (digits_onto k 10 false (n / 10) (digit_glyph false (n % 10) ∷ acc))
-        → (t : Bool)
-        → Lacks byte (if t then digit_glyph false (n % 10) ∷ acc
+        → (t : Bool) → Lacks byte (if t then digit_glyph false (n % 10) ∷ acc
         else digits_onto k 10 false (n / 10) (digit_glyph false (n % 10) ∷ acc))
     go last more true = (last, lacks)
     go last more false = more
@@ -51,8 +44,7 @@ pub lacks_decimal : (byte n : ℕ) → byte < 48 → Lacks byte (decimal n)
 lacks_decimal byte n low = lacks_byte byte n (λ d h e. omega (arith, e))
 
 pub not_utf8 : (word : List ℕ) (n : ℕ) → n < 2 ^ 32 → word ≡ decimal n → (IsUtf8 word → ⊥) → ⊥
-not_utf8 word n small e bad = bad
-    (subst (λ w. IsUtf8 w) (sym e)
+not_utf8 word n small e bad = bad (subst (λ w. IsUtf8 w) (sym e)
     (IsUtf8-from_ascii _ (IsAscii-decimal n (omega (
       arith,
       small,
@@ -79,16 +71,14 @@ field_lacks byte name word rest text lacks e =
 
 -- a text without a space after the name of a field has no such field
 pub no_field : (name text rest : List ℕ) → text ≡ name ++ rest → Lacks 32 rest
-    → (word more : List ℕ) → 0 < length word → Lacks 32 word
-    → text ≢ name ++ (word ++ 32 ∷ more)
+    → (word more : List ℕ) → 0 < length word → Lacks 32 word → text ≢ name ++ (word ++ 32 ∷ more)
 no_field name text rest e lacks word more _ _ f =
     lacks_not 32 word more (subst (λ t. Lacks 32 t) (append_cancel_left name _ _ (sym e ∙ f)) lacks)
 
 -- nor has one whose word there is empty
 pub empty_field : (name text rest before after : List ℕ) → text ≡ name ++ rest
     → IsCutFirst 32 rest before after → length before ≡ 0
-    → (word more : List ℕ) → 0 < length word → Lacks 32 word
-    → text ≢ name ++ (word ++ 32 ∷ more)
+    → (word more : List ℕ) → 0 < length word → Lacks 32 word → text ≢ name ++ (word ++ 32 ∷ more)
 empty_field name text rest before after e is none word more some lacks f =
     let same = (next_field name before after word more text is.first lacks
     (e ∙ ap (λ t. name ++ t) is.whole) f).0 in
@@ -105,14 +95,12 @@ bench_on w = codes "bench " ++ (w.bench ++ 32 ∷ (codes "tests " ++ w.tests))
 
 -- the words that were read are the words of the line
 pub after_model : (w : WordTexts) (text model rest : List ℕ) → AreWords w → text ≡ words_text w
-    → Lacks 32 model
-    → text ≡ codes "model " ++ (model ++ 32 ∷ rest) → rest ≡ rule_on w
+    → Lacks 32 model → text ≡ codes "model " ++ (model ++ 32 ∷ rest) → rest ≡ rule_on w
 after_model w text model rest ok e lacks f =
     (next_field (codes "model ") model rest w.model (rule_on w) text lacks ok.model.no_space f e).1
 
 pub after_rule : (w : WordTexts) (text rule rest : List ℕ) → AreWords w → text ≡ rule_on w
-    → Lacks 32 rule
-    → text ≡ codes "rule " ++ (rule ++ 32 ∷ rest) → rest ≡ bench_on w
+    → Lacks 32 rule → text ≡ codes "rule " ++ (rule ++ 32 ∷ rest) → rest ≡ bench_on w
 after_rule w text rule rest ok e lacks f =
     (next_field (codes "rule ") rule rest w.rule (bench_on w) text lacks ok.rule.no_space f e).1
 

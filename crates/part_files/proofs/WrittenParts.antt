@@ -1,32 +1,22 @@
 -- The text that is written for a part is a part file.
 use Rattle.std.proofs.Common.{◌≡◌, ◌≢◌, ◌<◌, ◌^◌, ◌/◌, ◌%◌, ℕ, zero, suc, List, [], ◌∷◌, length}
 use Rattle.std.proofs.Common.{refl, sym, ap, ◌∙◌, Option, Some, None, arith, map, true, lit<}
-use Rattle.std.specs.Prelude.{codes, slice_get, slice_index, zip}
-use Rattle.std.specs.List.{AllByRecursion}
+use Rattle.std.specs.{Prelude.{codes, slice_get, slice_index, zip}, List.AllByRecursion}
 use Rattle.std.proofs.lemmas.List.{length-map}
-use Rattle.hex.specs.Hex.{encode_with, lower_digits}
-use Rattle.hex.proofs.HexLemmas.{length-encode_with}
-use Rattle.sha2.specs.Sha256.{sha256}
-use Rattle.sha2.proofs.Facts256.{length-sha256}
+use Rattle.hex.{specs.Hex.{encode_with, lower_digits}, proofs.HexLemmas.length-encode_with}
+use Rattle.sha2.{specs.Sha256.sha256, proofs.Facts256.length-sha256}
 use Rattle.list_lemmas.proofs.Places.{place_within, within_place}
 use Rattle.bench_net.specs.Statement.{Statement}
-use Rattle.fault_model.specs.declared.Model.{Model}
+use Rattle.fault_model.specs.{declared.Model.Model, Fault.{Fault, faults}}
 use Rattle.fault_model.specs.declared.Model.TheVariants.{StuckAt, Transition, TransitionPairs}
-use Rattle.fault_model.specs.Fault.{Fault, faults}
-use Rattle.block_sim.specs.First.{IsFirst}
-use Rattle.block_sim.specs.Parts.{Parts}
-use Rattle.region_runs.specs.declared.parts.PartVerdict.{PartVerdict}
+use Rattle.block_sim.specs.{First.IsFirst, Parts.Parts}
+use Rattle.region_runs.specs.{declared.parts.PartVerdict.PartVerdict, Part.ArePartVerdicts}
 use Rattle.region_runs.specs.declared.parts.PartVerdict.TheVariants.{First, OtherPart}
-use Rattle.region_runs.specs.Part.{ArePartVerdicts}
-use Rattle.part_files.specs.Cut.{Lacks}
-use Rattle.job_loading.specs.Jobs.{IsJobOf}
-use Rattle.part_files.specs.PartText.{IsPartTextOf, part_text, head_of, rule_name}
+use Rattle.part_files.specs.{Cut.Lacks, PartText.{IsPartTextOf, part_text, head_of, rule_name}}
 use Rattle.part_files.specs.PartReading.{IsHead, IsLine, IsPart, IsVerdict, IsWord}
-use Rattle.report.specs.Report.{fault_text}
-use Rattle.job_loading.specs.Sums.{sum_text}
-use Rattle.report.specs.RunIdentity.{model_name}
-use Rattle.part_files.proofs.FaultNames.{fault_named}
-use Rattle.part_files.proofs.OnePartText.{lacks_literal, lacks_test}
+use Rattle.part_files.proofs.{FaultNames.fault_named, OnePartText.{lacks_literal, lacks_test}}
+use Rattle.job_loading.specs.{Jobs.IsJobOf, Sums.sum_text}
+use Rattle.report.specs.{Report.fault_text, RunIdentity.model_name}
 
 -- a digit of a table is none that the table lacks
 digit_lacks : (byte : ℕ) (table : List ℕ) (k : ℕ) → 0 ≢ byte → Lacks byte table
@@ -109,8 +99,7 @@ verdict_small job parts part verdicts m bench text is are k (First (Some t)) e =
     let long = place_within verdicts k (First (Some t)) e in
     let listed =
     within_place (faults job.list.model job.circuit) k (omega (arith, long, are.count)) in
-    let first =
-    first_of_part job parts part verdicts m bench text is are k listed.0 (Some t)
+    let first = first_of_part job parts part verdicts m bench text is are k listed.0 (Some t)
     (ap (λ x. slice_get (faults x job.circuit) k) (sym is.3) ∙ listed.1) e in
     let low = place_within job.tests.tests t first.0.0 first.0.1 in
     omega (arith, low, is.2.tests.count)

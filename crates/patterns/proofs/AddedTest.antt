@@ -2,17 +2,12 @@
 use Rattle.std.proofs.Common.{◌≡◌, ◌≢◌, ℕ, ◌+◌, ◌*◌, ◌/◌, ◌%◌, ◌<◌, ◌≤◌, ◌==◌, Bool, false, List}
 use Rattle.std.proofs.Common.{[], ◌∷◌, ◌++◌, map, length, get_or, set, replicate, sym, refl, ap}
 use Rattle.std.proofs.Common.{◌∙◌, subst, ⊎_elim, arith, get_or-set_same, get_or-set_other}
-use Rattle.std.proofs.Common.{length-set}
-use Rattle.std.specs.declared.vec.Vec.{Vec}
-use Rattle.std.specs.Vec.{with_items}
-use Rattle.std.specs.Int.{bit_at}
+use Rattle.std.{proofs.Common.length-set, specs.declared.vec.Vec.Vec, specs.Vec.with_items}
+use Rattle.std.{specs.Int.bit_at, proofs.lemmas.List.{length_push, length-replicate}}
 use Rattle.std.proofs.lemmas.List.{map_push, map-id, map-set, length-map, with_items_is}
-use Rattle.std.proofs.lemmas.Bool.{cases_eq, cases_lt}
 use Rattle.std.proofs.lemmas.List.{get_or-replicate, get_or_past, get_or_append_left, get_or_push}
-use Rattle.std.proofs.lemmas.List.{length_push, length-replicate}
-use Rattle.std.proofs.lemmas.List.Elements.{All-push, All-set}
-use Rattle.patterns.specs.Tests.{as_number, max_tests}
-use Rattle.patterns.specs.Least.{below}
+use Rattle.std.proofs.lemmas.{Bool.{cases_eq, cases_lt}, List.Elements.{All-push, All-set}}
+use Rattle.patterns.specs.{Tests.{as_number, max_tests}, Least.below}
 use Rattle.patterns.specs.Words.{word_at, bit_of, tests_of, AreWords, HaveRoom}
 use Rattle.patterns.proofs.NumbersBelow.{map-below_more, map-below_same, map-below_elements}
 use Rattle.patterns.proofs.TestWords.{as_number_one, word_lists, word_lists-read}
@@ -27,9 +22,7 @@ HaveRoom-in_last width count words inside are =
     }
 
 get_or-zeros : (n i : ℕ) → ◌≡◌ {A = ℕ} (get_or (replicate n 0) i 0) 0
-get_or-zeros n i =
-    ⊎_elim
-    (λ (h : i < n). get_or-replicate n i 0 0 h)
+get_or-zeros n i = ⊎_elim (λ (h : i < n). get_or-replicate n i 0 0 h)
     (λ (h : n ≤ i). get_or_past (replicate n 0) i 0 (omega (arith, length-replicate {A = ℕ} n 0)))
     (cases_lt i n)
 
@@ -37,25 +30,19 @@ word_at-push_zeros : (words : List (List ℕ)) (width block source : ℕ)
     → word_at (words ++ replicate width 0 ∷ []) block source ≡ word_at words block source
 word_at-push_zeros words width block source =
     let more = words ++ replicate width 0 ∷ [] in
-    ⊎_elim
-    (λ (h : block < length words). ap (λ row. get_or row source 0)
-    (get_or_append_left words (replicate width 0 ∷ []) [] block h))
-    (λ (h : length words ≤ block).
-    ⊎_elim
-    (λ (last : length words ≡ block).
+    ⊎_elim (λ (h : block < length words). ap (λ row. get_or row source 0)
+    (get_or_append_left words (replicate width 0 ∷ []) [] block h)) (λ (h : length words ≤ block).
+    ⊎_elim (λ (last : length words ≡ block).
     ap (λ row. get_or row source 0) (get_or_push words (replicate width 0) [] block last)
     ∙ get_or-zeros width source
     ∙ sym (ap (λ row. get_or row source 0) (get_or_past words block [] h)))
-    (λ (past : length words ≢ block).
-    ap (λ row. get_or row source 0)
+    (λ (past : length words ≢ block). ap (λ row. get_or row source 0)
     (get_or_past more block [] (omega (arith, length_push words (replicate width 0))))
     ∙ sym (ap (λ row. get_or row source 0) (get_or_past words block [] h)))
-    (cases_eq (length words) block))
-    (cases_lt block (length words))
+    (cases_eq (length words) block)) (cases_lt block (length words))
 
 HaveRoom-in_next : (width count : ℕ) (words : List (List ℕ)) → count % 64 ≡ 0
-    → AreWords width count words
-    → HaveRoom width count words (words ++ replicate width 0 ∷ [])
+    → AreWords width count words → HaveRoom width count words (words ++ replicate width 0 ∷ [])
 HaveRoom-in_next width count words full are =
     record {
       block_count = length_push words (replicate width 0) ∙ ap (λ n. n + 1) are.block_count
@@ -93,15 +80,12 @@ module _ (width count : ℕ) (old words : List (List ℕ)) (row : List Bool) (ne
 
   kept_block : (block source k : ℕ) → (block ≢ count / 64)
       → bit_at (word_at after block source) k ≡ bit_at (word_at old block source) k
-  kept_block block source k other =
-      ap (λ r. bit_at (get_or r source 0) k) (get_or-set_other words
+  kept_block block source k other = ap (λ r. bit_at (get_or r source 0) k) (get_or-set_other words
       (count / 64) block new [] other) ∙ ap (λ w. bit_at w k) (room.same block source)
 
   kept_bit : (block source k : ℕ) → k < 64 → 64 * block + k ≢ count
       → bit_at (word_at after block source) k ≡ bit_at (word_at old block source) k
-  kept_bit block source k in_word other =
-      ⊎_elim
-      (λ (same : block ≡ count / 64).
+  kept_bit block source k in_word other = ⊎_elim (λ (same : block ≡ count / 64).
       kept block source k same (λ (e : k ≡ count % 64). other (omega arith)))
       (λ (apart : block ≢ count / 64). kept_block block source k apart)
       (cases_eq block (count / 64))
@@ -123,16 +107,13 @@ module _ (width count : ℕ) (old words : List (List ℕ)) (row : List Bool) (ne
       (λ (e : 64 * (test / 64) + test % 64 ≡ count). omega arith)))
 
   new_test : map (bit_of after count) (below width) ≡ row
-  new_test =
-      map-below_elements (λ b. b) row (bit_of after count) width false row_width
+  new_test = map-below_elements (λ b. b) row (bit_of after count) width false row_width
       (λ source h. ap (λ r. bit_at (get_or r source 0) (count % 64) == 1) here
-      ∙ ap (λ n. n == 1) (written.lane_bits source (omega arith)) ∙ as_number_one _)
-      ∙ map-id row
+      ∙ ap (λ n. n == 1) (written.lane_bits source (omega arith)) ∙ as_number_one _) ∙ map-id row
 
   pub tests_of-push : tests_of width (count + 1) after ≡ tests_of width count old ++ row ∷ []
   unfolding tests_of
-  tests_of-push =
-      map-below_more (λ test. map (bit_of after test) (below width)) count
+  tests_of-push = map-below_more (λ test. map (bit_of after test) (below width)) count
       ∙ ap (λ tests. tests ++ map (bit_of after count) (below width) ∷ [])
       (map-below_same _ _ count same_test)
       ∙ ap (λ test. map (λ test'. map (bit_of old test') (below width))
@@ -149,13 +130,11 @@ HaveRoom-pushed width count old new fresh is zeros full are =
     let pushed : word_lists new ≡ word_lists old ++ replicate width 0 ∷ [] =
     ap word_lists is ∙ map_push (λ v. v.items) old fresh
     ∙ ap (λ row. word_lists old ++ row ∷ []) zeros
-    in
-    subst (HaveRoom width count (word_lists old)) (sym pushed)
+    in subst (HaveRoom width count (word_lists old)) (sym pushed)
     (HaveRoom-in_next width count (word_lists old) full are)
 
 module _ {Z : Type 0} (width count : ℕ) (old : List (List ℕ)) (words : List (Vec ℕ Z))
-    (block : Vec ℕ Z)
-    (room : HaveRoom width count old (word_lists words))
+    (block : Vec ℕ Z) (room : HaveRoom width count old (word_lists words))
     (read : block ≡ get_or words (count / 64) block) where
   within : count / 64 < length words
   within = omega (arith, room.block_count, length-map words (λ (v : Vec ℕ Z). v.items))
@@ -170,8 +149,7 @@ module _ {Z : Type 0} (width count : ℕ) (old : List (List ℕ)) (words : List 
   -- the lane of the next test is free
   pub room_clear : AreWords width count old → (source : ℕ)
       → bit_at (get_or block.items source 0) (count % 64) ≡ 0
-  room_clear are source =
-      ap (λ row. bit_at (get_or row source 0) (count % 64)) (sym room_block)
+  room_clear are source = ap (λ row. bit_at (get_or row source 0) (count % 64)) (sym room_block)
       ∙ ap (λ w. bit_at w (count % 64)) (room.same (count / 64) source)
       ∙ are.idle (count / 64) source (count % 64) (omega arith) (omega arith)
 
@@ -193,20 +171,17 @@ module _ {Z : Type 0} (width count : ℕ) (old : List (List ℕ)) (words : List 
     written = set words (count / 64) (with_items block new)
 
     word_lists-written : word_lists written ≡ set (word_lists words) (count / 64) new
-    word_lists-written =
-        map-set (λ v. v.items) words (count / 64) (with_items block new)
+    word_lists-written = map-set (λ v. v.items) words (count / 64) (with_items block new)
         ∙ ap (set (word_lists words) (count / 64)) (with_items_is block new (len ∙ sym block.ok.0))
 
     pub AreWords-written : AreWords width count old → length row ≡ width → count < max_tests
         → AreWords width (count + 1) (word_lists written)
     AreWords-written are row_width limit =
-        subst (AreWords width (count + 1)) (sym word_lists-written)
-        (AreWords-push width count old
+        subst (AreWords width (count + 1)) (sym word_lists-written) (AreWords-push width count old
         (word_lists words) row new are room IsWritten-from_bits row_width limit)
 
     pub tests_of-written : AreWords width count old → length row ≡ width → count < max_tests
         → tests_of width (count + 1) (word_lists written) ≡ tests_of width count old ++ row ∷ []
-    tests_of-written are row_width limit =
-        ap (tests_of width (count + 1)) word_lists-written
+    tests_of-written are row_width limit = ap (tests_of width (count + 1)) word_lists-written
         ∙ tests_of-push width count old
         (word_lists words) row new are room IsWritten-from_bits row_width limit

@@ -1,14 +1,10 @@
 -- Lemmas on the words of tests that follow full blocks of others.
-use Rattle.std.proofs.Common.{◌≡◌, ℕ, zero, suc, ◌+◌, ◌-◌, ◌*◌, ◌/◌, ◌%◌, ◌<◌, ◌≤◌, ◌==◌}
-use Rattle.std.proofs.Common.{List, [], ◌∷◌, ◌++◌, map, length, get_or, sym, ap, ◌∙◌, subst}
-use Rattle.std.proofs.Common.{⊎_elim, arith, length-append}
-use Rattle.std.specs.Int.{bit_at}
-use Rattle.std.proofs.lemmas.Bool.{cases_lt}
-use Rattle.std.proofs.lemmas.List.{append-nil, append_assoc, get_or_append_left}
-use Rattle.std.proofs.lemmas.List.{get_or-append-add}
+use Rattle.std.proofs.Common.{◌≡◌, ℕ, zero, suc, ◌+◌, ◌-◌, ◌*◌, ◌/◌, ◌%◌, ◌<◌, ◌≤◌, ◌==◌, List, []}
+use Rattle.std.proofs.Common.{◌∷◌, ◌++◌, map, length, get_or, sym, ap, ◌∙◌, subst, ⊎_elim, arith}
+use Rattle.std.{proofs.Common.length-append, specs.Int.bit_at, proofs.lemmas.Bool.cases_lt}
+use Rattle.std.proofs.lemmas.List.{append-nil, append_assoc, get_or_append_left, get_or-append-add}
 use Rattle.std.proofs.lemmas.List.Elements.{All-append}
-use Rattle.patterns.specs.Tests.{max_tests}
-use Rattle.patterns.specs.Least.{below}
+use Rattle.patterns.specs.{Tests.max_tests, Least.below}
 use Rattle.patterns.specs.Words.{word_at, bit_of, tests_of, AreWords}
 use Rattle.patterns.proofs.NumbersBelow.{map-below_more, map-below_same}
 
@@ -21,8 +17,7 @@ map-below_sum f m zero =
 map-below_sum f m (suc n) =
     let more : m + suc n ≡ m + n + 1 = omega arith in
     let last : suc n ≡ n + 1 = omega arith in
-    ap (λ k. map f (below k)) more
-    ∙ map-below_more f (m + n)
+    ap (λ k. map f (below k)) more ∙ map-below_more f (m + n)
     ∙ ap (λ front. front ++ f (m + n) ∷ []) (map-below_sum f m n)
     ∙ append_assoc (map f (below m)) (map (λ i. f (m + i)) (below n)) (f (m + n) ∷ [])
     ∙ ap (λ back. map f (below m) ++ back) (sym (map-below_more (λ i. f (m + i)) n))
@@ -40,13 +35,11 @@ module _ (width m n : ℕ) (words more : List (List ℕ)) (full : m % 64 ≡ 0)
 
   word_behind : (block source : ℕ)
       → word_at all (length words + block) source ≡ word_at more block source
-  word_behind block source =
-      ap (λ row. get_or row source 0) (get_or-append-add words more block [])
+  word_behind block source = ap (λ row. get_or row source 0) (get_or-append-add words more block [])
 
   idle : (block source k : ℕ) → m + n ≤ 64 * block + k → k < 64
       → bit_at (word_at all block source) k ≡ 0
-  idle block source k past in_word =
-      ⊎_elim
+  idle block source k past in_word = ⊎_elim
       (λ (early : block < length words). absurd (omega (arith, are.block_count)))
       (λ (late : length words ≤ block).
       let j = block - length words in
@@ -65,8 +58,7 @@ module _ (width m n : ℕ) (words more : List (List ℕ)) (full : m % 64 ≡ 0)
   }
 
   bit_before : (test source : ℕ) → test < m → bit_of all test source ≡ bit_of words test source
-  bit_before test source h =
-      ap (λ w. bit_at w (test % 64) == 1)
+  bit_before test source h = ap (λ w. bit_at w (test % 64) == 1)
       (word_before (test / 64) source (omega (arith, are.block_count)))
 
   bit_behind : (test source : ℕ) → bit_of all (m + test) source ≡ bit_of more test source
@@ -77,11 +69,9 @@ module _ (width m n : ℕ) (words more : List (List ℕ)) (full : m % 64 ≡ 0)
       ∙ ap (λ w. bit_at w ((m + test) % 64) == 1) (word_behind (test / 64) source)
       ∙ ap (λ k. bit_at (word_at more (test / 64) source) k == 1) lane
 
-  pub tests_of-joined : tests_of width (m + n) all
-      ≡ tests_of width m words ++ tests_of width n more
+  pub tests_of-joined : tests_of width (m + n) all ≡ tests_of width m words ++ tests_of width n more
   unfolding tests_of
-  tests_of-joined =
-      map-below_sum (λ test. map (λ source. bit_of all test source) (below width)) m n
+  tests_of-joined = map-below_sum (λ test. map (λ source. bit_of all test source) (below width)) m n
       ∙ ap (λ tests. tests ++ map
       (λ test. map (λ source. bit_of all (m + test) source) (below width)) (below n))
       (map-below_same _ _ m (λ test h. map-below_same _ _ width

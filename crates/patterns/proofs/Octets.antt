@@ -1,24 +1,18 @@
 -- Lemmas on tests that are packed into a byte for each source, and on moving them into words.
-use Rattle.std.proofs.Common.{◌≡◌, ◌≢◌, ℕ, ◌+◌, ◌-◌, ◌*◌, ◌/◌, ◌%◌, ◌^◌, ◌<◌, ◌≤◌, ◌==◌}
-use Rattle.std.proofs.Common.{Bool, false, List, [], ◌∷◌, ◌++◌, map, length, get_or, set, max, All}
-use Rattle.std.proofs.Common.{bit_or, sym, refl, ap, ◌∙◌, ⊎_elim, subst, arith}
-use Rattle.std.proofs.Common.{get_or-set_same, get_or-set_other, length-set}
-use Rattle.std.specs.Int.{bit_at}
-use Rattle.std.proofs.lemmas.Bool.{cases_eq, cases_lt}
-use Rattle.std.proofs.lemmas.List.{get_or_past, map-id, map-set, with_items_is}
-use Rattle.std.proofs.lemmas.List.Elements.{All-map, All-set}
+use Rattle.std.proofs.Common.{◌≡◌, ◌≢◌, ℕ, ◌+◌, ◌-◌, ◌*◌, ◌/◌, ◌%◌, ◌^◌, ◌<◌, ◌≤◌, ◌==◌, Bool}
+use Rattle.std.proofs.Common.{false, List, [], ◌∷◌, ◌++◌, map, length, get_or, set, max, All}
+use Rattle.std.proofs.Common.{bit_or, sym, refl, ap, ◌∙◌, ⊎_elim, subst, arith, get_or-set_same}
+use Rattle.std.{proofs.Common.{get_or-set_other, length-set}, specs.Int.bit_at}
+use Rattle.std.proofs.lemmas.{Bool.{cases_eq, cases_lt}, List.Elements.{All-map, All-set}}
+use Rattle.std.proofs.lemmas.{List.{get_or_past, map-id, map-set, with_items_is}, Nat.pow_pos}
 use Rattle.std.proofs.lemmas.Nat.Bits.{bit_at-zero, bit_at-lt, bit_at_or, bit_at_cat_low}
-use Rattle.std.proofs.lemmas.Nat.Bits.{bit_at_cat_high}
-use Rattle.std.proofs.lemmas.Nat.{pow_pos}
-use Rattle.patterns.specs.Tests.{TestList, IsTestList, IsWord, as_number, bit, max_tests}
-use Rattle.std.specs.declared.vec.Vec.{Vec}
+use Rattle.std.{proofs.lemmas.Nat.Bits.bit_at_cat_high, specs.declared.vec.Vec.Vec}
 use Rattle.std.specs.Vec.{with_items}
-use Rattle.patterns.specs.Least.{below}
-use Rattle.patterns.specs.Words.{word_at, bit_of, tests_of, AreWords, HaveRoom}
-use Rattle.patterns.specs.Octets.{AreBytes, tests_in_bytes}
+use Rattle.patterns.specs.Tests.{TestList, IsTestList, IsWord, as_number, bit, max_tests}
+use Rattle.patterns.specs.{Least.below, Words.{word_at, bit_of, tests_of, AreWords, HaveRoom}}
+use Rattle.patterns.{specs.Octets.{AreBytes, tests_in_bytes}, proofs.JoinedTests.map-below_sum}
 use Rattle.patterns.proofs.NumbersBelow.{map-below_more, map-below_same, map-below_elements}
 use Rattle.patterns.proofs.NumbersBelow.{length-map-below, get_or-map-below, get_or-map-below_past}
-use Rattle.patterns.proofs.JoinedTests.{map-below_sum}
 use Rattle.patterns.proofs.TestWords.{as_number_one, one_as_number, word_lists}
 use Rattle.patterns.proofs.AddedTest.{room_block}
 
@@ -41,8 +35,7 @@ module _ (width count : ℕ) (old new row : List ℕ) (are : AreBytes width coun
   pub tests_in_bytes-push : tests_in_bytes width (count + 1) new
       ≡ tests_in_bytes width count old ++ map (λ b. b == 49) row ∷ []
   unfolding tests_in_bytes
-  tests_in_bytes-push =
-      map-below_more
+  tests_in_bytes-push = map-below_more
       (λ test. map (λ source. bit_at (get_or new source 0) test == 1) (below width)) count
       ∙ ap (λ tests. tests
       ++ map (λ source. bit_at (get_or new source 0) count == 1) (below width) ∷ [])
@@ -70,18 +63,14 @@ unfolding tests_in_bytes
 IsWord-from_bytes width count bytes source are in_width k in_word =
     let place : 64 * 0 + k ≡ k = omega arith in
     subst (λ test. bit_at (get_or bytes source 0) k
-    ≡ as_number (bit (tests_in_bytes width count bytes) test source)) (sym place)
-    (⊎_elim
-    (λ (inside : k < count).
-    sym (ap as_number
+    ≡ as_number (bit (tests_in_bytes width count bytes) test source)) (sym place) (⊎_elim
+    (λ (inside : k < count). sym (ap as_number
     (ap (λ row. get_or row source false) (get_or-map-below _ count k [] inside)
     ∙ get_or-map-below (λ s. bit_at (get_or bytes s 0) k == 1) width source false in_width)
     ∙ one_as_number (bit_at (get_or bytes source 0) k) (bit_at-lt (get_or bytes source 0) k)))
-    (λ (past : count ≤ k).
-    are.idle source k past
+    (λ (past : count ≤ k). are.idle source k past
     ∙ sym (ap (λ row. as_number (get_or row source false))
-    (get_or-map-below_past _ count k [] past)))
-    (cases_lt k count))
+    (get_or-map-below_past _ count k [] past))) (cases_lt k count))
 
 -- the tests in these bytes, as contracts see them
 pub octet-count : (width count : ℕ) (bytes : List ℕ) (value : TestList)
@@ -110,8 +99,7 @@ IsTestList-from_bytes width count bytes are = record {
 pub record IsMergedBelow (old words bytes : List ℕ) (lane i : ℕ) : Type 0 where
   pub done : (source k : ℕ) → source < i → lane + k < 64
       → bit_at (get_or words source 0) (lane + k) ≡ bit_at (get_or bytes source 0) k
-  pub clear : (source k : ℕ) → i ≤ source → lane ≤ k → k < 64
-      → bit_at (get_or words source 0) k ≡ 0
+  pub clear : (source k : ℕ) → i ≤ source → lane ≤ k → k < 64 → bit_at (get_or words source 0) k ≡ 0
   pub low : (source k : ℕ) → k < lane
       → bit_at (get_or words source 0) k ≡ bit_at (get_or old source 0) k
 
@@ -126,8 +114,7 @@ merged_low word byte lane k in_word low =
     let plus : byte * 2 ^ lane ≡ byte * 2 ^ lane + 0 = omega arith in
     bit_at_or word (byte * 2 ^ lane % 2 ^ 64) k
     ∙ ap (λ b. max (bit_at word k) b) (bit_below (byte * 2 ^ lane) k (omega arith)
-    ∙ ap (λ n. bit_at n k) plus ∙ bit_at_cat_low byte lane 0 k low ∙ bit_at-zero k)
-    ∙ omega arith
+    ∙ ap (λ n. bit_at n k) plus ∙ bit_at_cat_low byte lane 0 k low ∙ bit_at-zero k) ∙ omega arith
 
 merged_high : (word byte lane k : ℕ) → lane + k < 64 → bit_at word (lane + k) ≡ 0
     → bit_at (bit_or word (byte * 2 ^ lane % 2 ^ 64)) (lane + k) ≡ bit_at byte k
@@ -138,8 +125,7 @@ merged_high word byte lane k in_word clear =
     ∙ ap (λ b. max b (bit_at (byte * 2 ^ lane % 2 ^ 64) (lane + k))) clear
     ∙ ap (λ b. max 0 b) (bit_below (byte * 2 ^ lane) (lane + k) in_word
     ∙ ap (λ n. bit_at n (lane + k)) plus
-    ∙ bit_at_cat_high byte lane 0 (lane + k) (pow_pos lane) (omega arith)
-    ∙ ap (bit_at byte) at)
+    ∙ bit_at_cat_high byte lane 0 (lane + k) (pow_pos lane) (omega arith) ∙ ap (bit_at byte) at)
     ∙ omega arith
 
 pub IsMergedBelow-more : (old words bytes : List ℕ) (lane i : ℕ) → lane < 64 → i < length words
@@ -151,11 +137,9 @@ IsMergedBelow-more old words bytes lane i in_word within before =
     let written = set words i word in
     let here : get_or written i 0 ≡ word = get_or-set_same words i word 0 within in
     record {
-      done = λ source k h in'.
-          ⊎_elim
+      done = λ source k h in'. ⊎_elim
           (λ (same : source ≡ i). subst (λ s. bit_at (get_or written s 0) (lane + k)
-          ≡ bit_at (get_or bytes s 0) k) (sym same)
-          (ap (λ w. bit_at w (lane + k)) here
+          ≡ bit_at (get_or bytes s 0) k) (sym same) (ap (λ w. bit_at w (lane + k)) here
           ∙ merged_high (get_or words i 0) (get_or bytes i 0) lane k in'
           (before.clear i (lane + k) (omega arith) (omega arith) in')))
           (λ (other : source ≢ i). ap (λ w. bit_at w (lane + k))
@@ -164,14 +148,11 @@ IsMergedBelow-more old words bytes lane i in_word within before =
       clear = λ source k h late in'. ap (λ w. bit_at w k)
           (get_or-set_other words i source word 0 (λ (e : source ≡ i). omega arith))
           ∙ before.clear source k (omega arith) late in';
-      low = λ source k early.
-          ⊎_elim
+      low = λ source k early. ⊎_elim
           (λ (same : source ≡ i). subst (λ s. bit_at (get_or written s 0) k
-          ≡ bit_at (get_or old s 0) k) (sym same)
-          (ap (λ w. bit_at w k) here
+          ≡ bit_at (get_or old s 0) k) (sym same) (ap (λ w. bit_at w k) here
           ∙ merged_low (get_or words i 0) (get_or bytes i 0) lane k in_word early
-          ∙ before.low i k early))
-          (λ (other : source ≢ i). ap (λ w. bit_at w k)
+          ∙ before.low i k early)) (λ (other : source ≢ i). ap (λ w. bit_at w k)
           (get_or-set_other words i source word 0 other) ∙ before.low source k early)
           (cases_eq source i);
     }
@@ -193,8 +174,7 @@ room_lanes width count old words block room read are source k late in_word =
 pub word_lists-set : {Z : Type 0} (words : List (Vec ℕ Z)) (b : ℕ) (block : Vec ℕ Z)
     (new : List ℕ) → length new ≡ length block.items
     → word_lists (set words b (with_items block new)) ≡ set (word_lists words) b new
-word_lists-set words b block new len =
-    map-set (λ v. v.items) words b (with_items block new)
+word_lists-set words b block new len = map-set (λ v. v.items) words b (with_items block new)
     ∙ ap (set (word_lists words) b) (with_items_is block new (len ∙ sym block.ok.0))
 
 -- the words after the tests in bytes were put after the tests in words: room was made in them, and
@@ -227,34 +207,27 @@ module _ (width m n : ℕ) (old words : List (List ℕ)) (more : List (List Bool
       → bit_at (word_at after (m / 64) source) (m % 64 + k) ≡ as_number (bit more k source)
   bit_in source k in_width in_word =
       let place : 64 * 0 + k ≡ k = omega arith in
-      ap (λ row. bit_at (get_or row source 0) (m % 64 + k)) here
-      ∙ by.high source k in_width in_word
-      ∙ by.is source in_width k (omega arith)
-      ∙ ap (λ test. as_number (bit more test source)) place
+      ap (λ row. bit_at (get_or row source 0) (m % 64 + k)) here ∙ by.high source k in_width in_word
+      ∙ by.is source in_width k (omega arith) ∙ ap (λ test. as_number (bit more test source)) place
 
   past_all : (source k : ℕ) → n ≤ k → bit more k source ≡ false
-  past_all source k past = ap (λ row. get_or row source false)
-      (get_or_past more k [] (omega arith))
+  past_all source k past = ap (λ row. get_or row source false) (get_or_past more k [] (omega arith))
 
   idle_here : (source k : ℕ) → m % 64 + n ≤ k → k < 64
       → bit_at (word_at after (m / 64) source) k ≡ 0
   idle_here source k past in_word =
       let j = k - m % 64 in
       let at : k ≡ m % 64 + j = omega arith in
-      ⊎_elim
-      (λ (in_width : source < width).
-      ap (bit_at (word_at after (m / 64) source)) at
-      ∙ bit_in source j in_width (omega arith)
-      ∙ ap as_number (past_all source j (omega arith)))
-      (λ (out : width ≤ source).
+      ⊎_elim (λ (in_width : source < width).
+      ap (bit_at (word_at after (m / 64) source)) at ∙ bit_in source j in_width (omega arith)
+      ∙ ap as_number (past_all source j (omega arith))) (λ (out : width ≤ source).
       ap (λ row. bit_at (get_or row source 0) k) here
       ∙ ap (λ w. bit_at w k) (get_or_past new source 0 (omega arith)) ∙ bit_at-zero k)
       (cases_lt source width)
 
   kept_block : (block source k : ℕ) → (block ≢ m / 64)
       → bit_at (word_at after block source) k ≡ bit_at (word_at old block source) k
-  kept_block block source k other =
-      ap (λ r. bit_at (get_or r source 0) k) (get_or-set_other words
+  kept_block block source k other = ap (λ r. bit_at (get_or r source 0) k) (get_or-set_other words
       (m / 64) block new [] other) ∙ ap (λ w. bit_at w k) (by.room.same block source)
 
   pub AreWords-moved : AreWords width (m + n) after
@@ -262,26 +235,22 @@ module _ (width m n : ℕ) (old words : List (List ℕ)) (more : List (List Bool
     limit = by.limit;
     block_count = length-set words (m / 64) new ∙ by.room.block_count ∙ omega arith;
     each = All-set (λ block. length block ≡ width) words (m / 64) new by.len by.room.each;
-    idle = λ block source k past in_word.
-        ⊎_elim
+    idle = λ block source k past in_word. ⊎_elim
         (λ (same : block ≡ m / 64). subst (λ b. bit_at (word_at after b source) k ≡ 0) (sym same)
         (idle_here source k (omega arith) in_word))
         (λ (other : block ≢ m / 64). kept_block block source k other
-        ∙ by.are.idle block source k (omega arith) in_word)
-        (cases_eq block (m / 64));
+        ∙ by.are.idle block source k (omega arith) in_word) (cases_eq block (m / 64));
   }
 
   bit_before : (test source : ℕ) → test < m → bit_of after test source ≡ bit_of old test source
-  bit_before test source h =
-      ⊎_elim
+  bit_before test source h = ⊎_elim
       (λ (same : test / 64 ≡ m / 64). subst (λ b. (bit_at (word_at after b source) (test % 64) == 1)
       ≡ (bit_at (word_at old b source) (test % 64) == 1)) (sym same)
       (ap (λ row. bit_at (get_or row source 0) (test % 64) == 1) here
       ∙ ap (λ b. b == 1) (by.low source (test % 64) (omega arith)
       ∙ ap (λ w. bit_at w (test % 64)) (by.room.same (m / 64) source))))
       (λ (other : test / 64 ≢ m / 64). ap (λ b. b == 1)
-      (kept_block (test / 64) source (test % 64) other))
-      (cases_eq (test / 64) (m / 64))
+      (kept_block (test / 64) source (test % 64) other)) (cases_eq (test / 64) (m / 64))
 
   bit_behind : (test source : ℕ) → test < n → source < width
       → bit_of after (m + test) source ≡ get_or (get_or more test []) source false
@@ -302,8 +271,7 @@ module _ (width m n : ℕ) (old words : List (List ℕ)) (more : List (List Bool
       (map-below_same _ _ m (λ test h. map-below_same _ _ width
       (λ source _. bit_before test source h)))
       ∙ ap (λ tests. map (λ test. map (λ source. bit_of old test source) (below width)) (below m)
-      ++ tests)
-      (map-below_elements (λ test. test) more
+      ++ tests) (map-below_elements (λ test. test) more
       (λ test. map (λ source. bit_of after (m + test) source) (below width)) n [] by.count
       (λ test h. map-below_elements (λ b. b) (get_or more test [])
       (λ source. bit_of after (m + test) source) width false (by.each test [] (omega arith))

@@ -1,16 +1,12 @@
 -- Each test file is accepted or has an error, with one result.
 use Rattle.std.proofs.Common.{◌≡◌, ℕ, ◌<◌, ◌≤◌, ◌⊎◌, ◌==◌, All, Bool, List, [], ◌∷◌, map, length}
-use Rattle.std.proofs.Common.{get_or}
-use Rattle.std.proofs.Common.{sym, refl, ap, ◌∙◌, subst, inl, inr, ⊎_elim, arith}
-use Rattle.std.proofs.lemmas.Bool.{cases_lt}
-use Rattle.std.proofs.lemmas.List.{length-map}
-use Rattle.std.proofs.lemmas.List.Elements.{All-map}
-use Rattle.patterns.specs.declared.TestFault.{TestFault}
+use Rattle.std.proofs.Common.{get_or, sym, refl, ap, ◌∙◌, subst, inl, inr, ⊎_elim, arith}
+use Rattle.std.proofs.lemmas.{Bool.cases_lt, List.length-map, List.Elements.All-map}
+use Rattle.patterns.specs.{declared.TestFault.TestFault, Tests.IsTestRefusal}
+use Rattle.patterns.specs.Tests.{TestList, IsTestList, max_tests, test_faults, HasTests}
+use Rattle.patterns.proofs.RowFaults.{test_faults-not_memory, rows-no_test_fault}
 use Rattle.patterns.specs.declared.TestFault.TheVariants as fault
 use Rattle.text_lines.specs.Rows.{Row, rows}
-use Rattle.patterns.specs.Tests.{TestList, IsTestList, max_tests, test_faults, HasTests}
-use Rattle.patterns.specs.Tests.{IsTestRefusal}
-use Rattle.patterns.proofs.RowFaults.{test_faults-not_memory, rows-no_test_fault}
 
 test_faults-refusal : (text : List ℕ) (width : ℕ) (f : TestFault) → IsTestRefusal text width f
     → (more : List TestFault) × (test_faults text width ≡ f ∷ more)
@@ -30,10 +26,7 @@ tests_or_refusal : (text : List ℕ) (width : ℕ) (faults : List TestFault)
     → test_faults text width ≡ faults
     → ((t : TestList) × HasTests text width t) ⊎ ((f : TestFault) × IsTestRefusal text width f)
 tests_or_refusal text width [] is = inl (
-  record {
-    width = width;
-    tests = map (λ row. map (λ b. b == 49) row.bytes) (rows text);
-  },
+  record { width = width; tests = map (λ row. map (λ b. b == 49) row.bytes) (rows text) },
   (is, refl, refl),
 )
 tests_or_refusal text width (f ∷ more) is = inr (f, refusal-test_faults text width f more is)
@@ -67,12 +60,9 @@ bits row = map (λ b. b == 49) row.bytes
 
 rows-test_limit : (text : List ℕ) (width : ℕ) → test_faults text width ≡ []
     → length (rows text) ≤ max_tests
-rows-test_limit text width none =
-    ⊎_elim
-    (λ (past : max_tests < length (rows text)). let last =
+rows-test_limit text width none = ⊎_elim (λ (past : max_tests < length (rows text)). let last =
     rows-no_test_fault text width none max_tests (record { line = 0; bytes = [] }) past in
-    absurd (omega (arith, last.0)))
-    (λ (within : length (rows text) ≤ max_tests). within)
+    absurd (omega (arith, last.0))) (λ (within : length (rows text) ≤ max_tests). within)
     (cases_lt max_tests (length (rows text)))
 
 -- the tests of a text have their width and are within the limit

@@ -1,26 +1,21 @@
 -- The errors of the rows of a test file.
 use Rattle.std.proofs.Common.{◌≡◌, ℕ, ◌<◌, List, [], ◌∷◌, length, get_or, Option, Some, None}
 use Rattle.std.proofs.lemmas.Bool.{cond_both, not-false, ltb-true, eqb-true}
-use Rattle.patterns.specs.declared.TestFault.{TestFault}
+use Rattle.patterns.specs.{declared.TestFault.TestFault, Tests.{max_tests, test_fault, test_faults}}
 use Rattle.patterns.specs.declared.TestFault.TheVariants as fault
-use Rattle.text_lines.specs.Rows.{Row, rows}
-use Rattle.text_lines.proofs.Public.{first_fault, no_fault_at}
-use Rattle.patterns.specs.Tests.{max_tests, test_fault, test_faults}
+use Rattle.text_lines.{specs.Rows.{Row, rows}, proofs.Public.{first_fault, no_fault_at}}
 
 -- the error of a row, by cases
 test_fault_by : (width : ℕ) (at : ℕ × Row) (P : Option TestFault → Type 0)
     → P (Some fault.TooMany) → P (Some (fault.BadByte at.1.line))
     → P (Some (fault.BadWidth at.1.line))
     → (at.0 < max_tests → length at.1.bytes ≡ width → P None) → P (test_fault width at)
-test_fault_by width at P many byte wide none =
-    cond_both _ _ _ P (λ _. many) (λ room.
-    cond_both _ _ _ P (λ _. byte) (λ bits.
-    cond_both _ _ _ P (λ _. wide) (λ same.
+test_fault_by width at P many byte wide none = cond_both _ _ _ P (λ _. many) (λ room.
+    cond_both _ _ _ P (λ _. byte) (λ bits. cond_both _ _ _ P (λ _. wide) (λ same.
     none (ltb-true _ _ (not-false _ room)) (eqb-true _ _ (not-false _ same)))))
 
 not_memory : (width : ℕ) (at : ℕ × Row) → test_fault width at ≡ Some fault.Memory → ⊥
-not_memory width at =
-    test_fault_by width at (λ o. o ≡ Some fault.Memory → ⊥)
+not_memory width at = test_fault_by width at (λ o. o ≡ Some fault.Memory → ⊥)
     (λ e. cc) (λ e. cc) (λ e. cc) (λ room same e. cc)
 
 test_fault-none : (width : ℕ) (at : ℕ × Row) → test_fault width at ≡ None
@@ -40,6 +35,5 @@ test_faults-not_memory text width more e =
 pub rows-no_test_fault : (text : List ℕ) (width : ℕ) → test_faults text width ≡ []
     → (i : ℕ) (d : Row) → i < length (rows text)
     → (i < max_tests) × (length (get_or (rows text) i d).bytes ≡ width)
-rows-no_test_fault text width none i d within =
-    test_fault-none width (i, get_or (rows text) i d)
+rows-no_test_fault text width none i d within = test_fault-none width (i, get_or (rows text) i d)
     (no_fault_at (test_fault width) text none i d within)

@@ -1,15 +1,11 @@
 -- Lemmas on tests and the words that hold them.
 use Rattle.std.proofs.Common.{◌≡◌, ℕ, ◌+◌, ◌*◌, ◌/◌, ◌%◌, ◌<◌, ◌≤◌, Bool, true, false, ◌==◌, List}
 use Rattle.std.proofs.Common.{[], map, length, get_or, sym, refl, ap, ◌∙◌, arith, ◌≢◌, ⊎_elim, All}
-use Rattle.std.specs.declared.vec.Vec.{Vec}
-use Rattle.std.specs.Int.{bit_at}
-use Rattle.std.proofs.lemmas.List.{get_or-map, length-map}
+use Rattle.std.{specs.declared.vec.Vec.Vec, specs.Int.bit_at, proofs.lemmas.Nat.Bits.bit_at-lt}
+use Rattle.std.proofs.lemmas.List.{get_or-map, length-map, Elements.All-map}
 use Rattle.std.proofs.lemmas.Bool.{cases_eq, cases_lt, eq-eqb, ne_eqb}
-use Rattle.std.proofs.lemmas.Nat.Bits.{bit_at-lt}
-use Rattle.std.proofs.lemmas.List.Elements.{All-map}
 use Rattle.patterns.specs.Tests.{TestList, IsTestList, IsWord, bit, blocks, as_number}
-use Rattle.patterns.specs.Least.{below}
-use Rattle.patterns.specs.Words.{word_at, bit_of, tests_of, AreWords}
+use Rattle.patterns.specs.{Least.below, Words.{word_at, bit_of, tests_of, AreWords}}
 use Rattle.patterns.proofs.NumbersBelow.{length-map-below, get_or-map-below, get_or-map-below_past}
 
 -- the words of each block, as lists
@@ -29,8 +25,7 @@ unfolding tests_of
 length-tests_of width count words = length-map-below _ count
 
 bit-tests_of : (width count : ℕ) (words : List (List ℕ)) (test source : ℕ) → test < count
-    → source < width
-    → bit (tests_of width count words) test source ≡ bit_of words test source
+    → source < width → bit (tests_of width count words) test source ≡ bit_of words test source
 unfolding tests_of
 bit-tests_of width count words test source in_count in_width =
     ap (λ row. get_or row source false) (get_or-map-below _ count test [] in_count)
@@ -57,11 +52,8 @@ as_number_one true = refl
 as_number_one false = refl
 
 pub one_as_number : (n : ℕ) → n < 2 → as_number (n == 1) ≡ n
-one_as_number n small =
-    ⊎_elim
-    (λ (one : n ≡ 1). ap as_number (eq-eqb n 1 one) ∙ sym one)
-    (λ (other : n ≢ 1). ap as_number (ne_eqb n 1 other) ∙ omega arith)
-    (cases_eq n 1)
+one_as_number n small = ⊎_elim (λ (one : n ≡ 1). ap as_number (eq-eqb n 1 one) ∙ sym one)
+    (λ (other : n ≢ 1). ap as_number (ne_eqb n 1 other) ∙ omega arith) (cases_eq n 1)
 
 -- the words of a block
 pub IsWord-from_words : (width count : ℕ) (words : List (List ℕ)) (block source : ℕ)
@@ -71,15 +63,11 @@ IsWord-from_words width count words block source are in_width k in_word =
     let quotient : (64 * block + k) / 64 ≡ block = omega arith in
     let remainder : (64 * block + k) % 64 ≡ k = omega arith in
     let word = word_at words block source in
-    ⊎_elim
-    (λ (inside : 64 * block + k < count).
-    sym (ap as_number
-    (bit-tests_of width count words (64 * block + k) source inside in_width
+    ⊎_elim (λ (inside : 64 * block + k < count).
+    sym (ap as_number (bit-tests_of width count words (64 * block + k) source inside in_width
     ∙ ap (λ q. bit_at (word_at words q source) ((64 * block + k) % 64) == 1) quotient
-    ∙ ap (λ r. bit_at word r == 1) remainder)
-    ∙ one_as_number (bit_at word k) (bit_at-lt word k)))
-    (λ (past : count ≤ 64 * block + k).
-    are.idle block source k past in_word
+    ∙ ap (λ r. bit_at word r == 1) remainder) ∙ one_as_number (bit_at word k) (bit_at-lt word k)))
+    (λ (past : count ≤ 64 * block + k). are.idle block source k past in_word
     ∙ sym (ap as_number (bit-tests_of_past width count words (64 * block + k) source past)))
     (cases_lt (64 * block + k) count)
 

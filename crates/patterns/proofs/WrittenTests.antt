@@ -1,9 +1,8 @@
 -- The text of tests is read as the same tests.
 use Rattle.std.proofs.Common.{◌≡◌, ℕ, suc, ◌+◌, ◌<◌, ◌≤◌, ◌==◌, All, Bool, true, false, not, List}
-use Rattle.std.proofs.Common.{[]}
-use Rattle.std.proofs.Common.{◌∷◌, ◌++◌, map, length, None, sym, refl, ap, ◌∙◌, arith, append_assoc}
+use Rattle.std.proofs.Common.{[], ◌∷◌, ◌++◌, map, length, None, sym, refl, ap, ◌∙◌, arith}
+use Rattle.std.proofs.{Common.append_assoc, lemmas.Bool.{cond-false, eq-eqb, lt-ltb}}
 use Rattle.std.specs.List.{filter_map, cons_option, enumerate_from, list_all}
-use Rattle.std.proofs.lemmas.Bool.{cond-false, eq-eqb, lt-ltb}
 use Rattle.std.proofs.lemmas.List.{length-map}
 use Rattle.text_lines.specs.Rows.{Row, rows_from, is_bit}
 use Rattle.text_lines.proofs.Public.{rows_from_first, before_end, after_end, row_content}
@@ -45,8 +44,7 @@ rows-written line (test ∷ tests) some =
 -- none of them has an error
 no_fault : (width place line : ℕ) (test : List Bool) → place < max_tests → length test ≡ width
     → test_fault width (place, record { line = line; bytes = digits test }) ≡ None
-no_fault width place line test room same =
-    cond-false _ _ _ (ap not (lt-ltb place max_tests room))
+no_fault width place line test room same = cond-false _ _ _ (ap not (lt-ltb place max_tests room))
     ∙ cond-false _ _ _ (ap not (all_bits test))
     ∙ cond-false _ _ _ (ap not (eq-eqb (length (digits test)) width (length-map test digit ∙ same)))
 

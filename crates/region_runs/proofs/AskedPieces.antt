@@ -1,23 +1,17 @@
 -- The gate was asked for all pieces whose class the earlier blocks leave open.
-use Rattle.std.proofs.Common.{◌≡◌, ◌<◌, ◌≤◌, ◌+◌, ◌*◌, ◌⊎◌, inl, inr, ℕ, Bool, true, false}
-use Rattle.std.proofs.Common.{List, All, length, Some, sym, ◌∙◌, subst, refl}
-use Rattle.std.proofs.Common.{arith}
-use Rattle.std.specs.Prelude.{slice_get}
-use Rattle.std.proofs.lemmas.Bool.{cases_lt, false≢true}
+use Rattle.std.proofs.Common.{◌≡◌, ◌<◌, ◌≤◌, ◌+◌, ◌*◌, ◌⊎◌, inl, inr, ℕ, Bool, true, false, List}
+use Rattle.std.proofs.Common.{All, length, Some, sym, ◌∙◌, subst, refl, arith}
+use Rattle.std.{specs.Prelude.slice_get, proofs.lemmas.Bool.{cases_lt, false≢true}}
 use Rattle.std.proofs.lemmas.Option.{slice_get_within}
 use Rattle.flat_circuit.specs.declared.origin.ListedClass.{ListedClass}
-use Rattle.block_sim.specs.Listed.{IsListed}
-use Rattle.block_sim.specs.Parts.{BelongTogether}
+use Rattle.block_sim.specs.{Listed.IsListed, Parts.BelongTogether}
 use Rattle.workers.specs.Stops.{Stops}
-use Rattle.region_sim.specs.ClassOrder.{classes_of}
-use Rattle.region_sim.specs.Goals.{AreHits}
-use Rattle.region_sim.specs.RegionHits.{IsOpenAt}
-use Rattle.region_runs.specs.BlockSweeps.{AreNotStopped}
+use Rattle.region_sim.specs.{ClassOrder.classes_of, Goals.AreHits, RegionHits.IsOpenAt}
+use Rattle.region_runs.specs.{BlockSweeps.AreNotStopped, Tasks.{IsSound, Task}}
 use Rattle.region_runs.specs.StretchRuns.{AreKeptUpTo, ArePassed, IsEarlier, IsOpenAfter}
-use Rattle.region_runs.specs.Tasks.{IsSound, Task}
-use Rattle.list_lemmas.proofs.Places.{from_mapped, within_place}
 use Rattle.region_runs.proofs.FirstHits.{class_there, row_listed}
 use Rattle.region_runs.proofs.StretchRuns.{done_high, some_hits}
+use Rattle.list_lemmas.proofs.Places.{from_mapped, within_place}
 
 -- the gate was asked for each class of rows that is open on one of the blocks up to the last
 module _ {K : Type 0} (task : Task K) (sound : IsSound task) (b : BelongTogether task.job)
@@ -105,6 +99,5 @@ module _ {K : Type 0} (task : Task K) (sound : IsSound task) (b : BelongTogether
       go k class block at up (inr x) still must =
           let own = asked_at k class from at (omega arith)
           (subst (IsOpenAfter task class) x.0 still) in
-          asked k own.0 x.1 own.2
-          (subst (λ n. S.must worker n from) (sym own.3)
+          asked k own.0 x.1 own.2 (subst (λ n. S.must worker n from) (sym own.3)
           (subst (S.must worker class) x.0 must))

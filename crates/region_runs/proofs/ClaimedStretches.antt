@@ -1,30 +1,23 @@
 -- Stretches that workers claimed, and the results for them.
-use Rattle.std.proofs.Common.{◌≡◌, ◌<◌, ℕ, List, length, All, Option, Some, None, ◌∙◌}
-use Rattle.std.proofs.Common.{subst, get_or, ap, arith, [], ◌∷◌, ◌++◌}
+use Rattle.std.proofs.Common.{◌≡◌, ◌<◌, ℕ, List, length, All, Option, Some, None, ◌∙◌, subst}
+use Rattle.std.proofs.{Common.{get_or, ap, arith, [], ◌∷◌, ◌++◌}, lemmas.List.Elements.All-weaker}
 use Rattle.std.specs.Prelude.{Result, Ok, Err, IfOk, slice_get}
-use Rattle.std.proofs.lemmas.List.Elements.{All-weaker}
 use Rattle.std.proofs.lemmas.Option.{get_or_from_slice_get, slice_get_within}
 use Rattle.patterns.proofs.Public.{length-map-below, get_or-map-below}
 use Rattle.block_sim.specs.Parts.{Parts}
 use Rattle.fault_ledger.specs.Seats.{Place, Sitter, newcomer, newcomers}
 use Rattle.workers.specs.Stops.{Stops}
-use Rattle.region_runs.specs.declared.stretch_run.Stop.{Stop}
-use Rattle.region_runs.specs.declared.stretches.Cut.{Cut}
-use Rattle.region_runs.specs.declared.stretch_workers.Done.{Done}
-use Rattle.region_runs.specs.declared.stretch_workers.Served.{Served}
-use Rattle.region_runs.specs.StretchRuns.{AreKeptUpTo, HasEnded, IsDone}
-use Rattle.region_runs.specs.Part.{stretch_at}
-use Rattle.region_runs.specs.Stretches.{HasServed}
-use Rattle.region_runs.proofs.PushedLists.{push_each}
-use Rattle.region_runs.proofs.StretchRuns.{kept_at_first}
-use Rattle.region_runs.specs.Tasks.{IsAtFirst, Task}
+use Rattle.region_runs.specs.declared.{stretch_run.Stop.Stop, stretches.Cut.Cut}
+use Rattle.region_runs.specs.declared.stretch_workers.{Done.Done, Served.Served}
+use Rattle.region_runs.specs.{StretchRuns.{AreKeptUpTo, HasEnded, IsDone}, Part.stretch_at}
+use Rattle.region_runs.{specs.Stretches.HasServed, proofs.PushedLists.push_each}
+use Rattle.region_runs.{proofs.StretchRuns.kept_at_first, specs.Tasks.{IsAtFirst, Task}}
 
 -- what is kept at first
 pub starts_kept : {K : Type 0} (task : Task K) (classes : List ℕ) (kept : List K)
     → length kept ≡ length classes → All (λ one. IsAtFirst task one) kept
     → AreKeptUpTo task classes 0 task.from kept
-starts_kept {K} task classes kept count first =
-    kept_at_first task classes kept count
+starts_kept {K} task classes kept count first = kept_at_first task classes kept count
     (λ k one at. subst (IsAtFirst task) (get_or_from_slice_get kept k one one at)
     (first k one (slice_get_within kept k one at)))
 
@@ -87,8 +80,7 @@ served_along {E} {K} {V} of r r' j j' a a' u u' p p' w w' P P' S S' er ej ea eu 
         (subst (λ x. HasServed (of j u a) u.size u.classes.items x w' P' S' served.seat
         served.dones.items) ep
         (subst (λ x. HasServed (of j u a) u.size u.classes.items p x P' S' served.seat
-        served.dones.items) ew
-        (record {
+        served.dones.items) ew (record {
           place_is = h.place_is;
           worker_is = h.worker_is;
           legal = h.legal;

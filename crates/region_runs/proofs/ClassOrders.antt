@@ -1,9 +1,7 @@
 -- The classes of a part, in the order of all classes.
-use Rattle.std.proofs.Common.{◌≡◌, ◌<◌, ◌≤◌, ◌+◌, ◌⊎◌, inl, inr, ℕ}
-use Rattle.std.proofs.Common.{List, [], ◌∷◌, ◌++◌, length, Some, sym, ap}
-use Rattle.std.proofs.Common.{◌∙◌, subst, arith, length-append}
-use Rattle.std.specs.Prelude.{slice_get}
-use Rattle.std.proofs.lemmas.Bool.{cases_lt}
+use Rattle.std.proofs.Common.{◌≡◌, ◌<◌, ◌≤◌, ◌+◌, ◌⊎◌, inl, inr, ℕ, List, [], ◌∷◌, ◌++◌, length}
+use Rattle.std.proofs.Common.{Some, sym, ap, ◌∙◌, subst, arith, length-append}
+use Rattle.std.{specs.Prelude.slice_get, proofs.lemmas.Bool.cases_lt}
 use Rattle.std.proofs.lemmas.Option.{slice_get_within}
 use Rattle.block_sim.specs.Parts.{Parts}
 use Rattle.region_sim.specs.ClassOrder.{AreAllByRegion}
@@ -18,16 +16,14 @@ pub record AreOwnUpTo (job : Parts) (parts part : ℕ) (classes : List ℕ) (n :
   pub all : (j class : ℕ) → j < n → slice_get classes j ≡ Some class
       → IsOfPart job parts part class → (k : ℕ) × (slice_get own k ≡ Some class)
   pub ordered : (i k first second : ℕ) → i < k → slice_get own i ≡ Some first
-      → slice_get own k ≡ Some second
-      → (a b : ℕ) × (a < b) × (slice_get classes a ≡ Some first)
+      → slice_get own k ≡ Some second → (a b : ℕ) × (a < b) × (slice_get classes a ≡ Some first)
       × (slice_get classes b ≡ Some second)
   pub few : length own ≤ n
 
 -- one class more, which is of the part
 pub own_more : (job : Parts) (parts part : ℕ) (classes : List ℕ) (n class : ℕ) (own : List ℕ)
     → AreOwnUpTo job parts part classes n own → slice_get classes n ≡ Some class
-    → IsOfPart job parts part class
-    → AreOwnUpTo job parts part classes (n + 1) (own ++ class ∷ [])
+    → IsOfPart job parts part class → AreOwnUpTo job parts part classes (n + 1) (own ++ class ∷ [])
 own_more job parts part classes n class own was here of = record {
   each = λ k c at. each k c (pushed own class c k at);
   all = λ j c lt at is. all j c lt at is (cases_lt j n);
@@ -39,12 +35,7 @@ own_more job parts part classes n class own was here of = record {
     each : (k c : ℕ) → (slice_get own k ≡ Some c) ⊎ ((k ≡ length own) × (class ≡ c))
         → (j : ℕ) × (j < n + 1) × (slice_get classes j ≡ Some c) × IsOfPart job parts part c
     each k c (inl h) = let x = was.each k c h in (x.0, omega (arith, x.1), x.2, x.3)
-    each k c (inr h) = (
-      n,
-      omega arith,
-      here ∙ ap Some h.1,
-      subst (IsOfPart job parts part) h.1 of,
-    )
+    each k c (inr h) = (n, omega arith, here ∙ ap Some h.1, subst (IsOfPart job parts part) h.1 of)
 
     all : (j c : ℕ) → j < n + 1 → slice_get classes j ≡ Some c → IsOfPart job parts part c
         → (j < n) ⊎ (n ≤ j) → (k : ℕ) × (slice_get (own ++ class ∷ []) k ≡ Some c)

@@ -1,26 +1,19 @@
 -- The dead classes at the end of a list: no test detects them, so a run over the others does for
 -- the whole list.
-use Rattle.std.proofs.Common.{◌≡◌, ◌<◌, ◌≤◌, ◌-◌, ◌*◌, ◌++◌, ◌⊎◌, inl, inr, ℕ, zero, suc}
-use Rattle.std.proofs.Common.{List, [], ◌∷◌, All, Bool, Option, Some, None, false, length, refl}
-use Rattle.std.proofs.Common.{sym, ap, ◌∙◌, subst, arith}
-use Rattle.std.specs.Prelude.{slice_get}
-use Rattle.std.specs.Option.{option_map}
-use Rattle.std.proofs.lemmas.Bool.{cases_lt}
-use Rattle.std.proofs.lemmas.List.{length-append, length-map}
+use Rattle.std.proofs.Common.{◌≡◌, ◌<◌, ◌≤◌, ◌-◌, ◌*◌, ◌++◌, ◌⊎◌, inl, inr, ℕ, zero, suc, List, []}
+use Rattle.std.proofs.Common.{◌∷◌, All, Bool, Option, Some, None, false, length, refl, sym, ap, ◌∙◌}
+use Rattle.std.{proofs.Common.{subst, arith}, specs.Prelude.slice_get, specs.Option.option_map}
+use Rattle.std.proofs.lemmas.{Bool.cases_lt, List.{length-append, length-map}}
 use Rattle.std.proofs.lemmas.Option.{slice_get-map, slice_get_within}
 use Rattle.list_lemmas.proofs.Places.{from_mapped}
 use Rattle.patterns.specs.Tests.{blocks}
 use Rattle.flat_circuit.specs.declared.origin.ListedClass.{ListedClass}
-use Rattle.block_sim.specs.Listed.{IsListed}
-use Rattle.block_sim.specs.Parts.{BelongTogether}
+use Rattle.block_sim.specs.{Listed.IsListed, Parts.BelongTogether}
 use Rattle.workers.specs.Stops.{Stops}
-use Rattle.region_sim.specs.ClassOrder.{classes_of}
-use Rattle.region_sim.specs.Goals.{AreHits}
-use Rattle.region_runs.specs.declared.stretch_run.Stop.{Stop}
+use Rattle.region_sim.specs.{ClassOrder.classes_of, Goals.AreHits}
+use Rattle.region_runs.specs.{declared.stretch_run.Stop.Stop, Tasks.{IsSound, Task}}
 use Rattle.region_runs.specs.BlockSweeps.{AreAllNotStopped, AreDeadFrom}
-use Rattle.region_runs.specs.StretchRuns.{AreKeptUpTo, ArePassed, HasEnded, IsEarlier}
-use Rattle.region_runs.specs.StretchRuns.{IsOpenAfter}
-use Rattle.region_runs.specs.Tasks.{IsSound, Task}
+use Rattle.region_runs.specs.StretchRuns.{AreKeptUpTo, ArePassed, HasEnded, IsEarlier, IsOpenAfter}
 use Rattle.region_runs.proofs.FirstHits.{never_hit, row_listed}
 use Rattle.region_runs.proofs.StretchRuns.{done_high, one_count}
 
@@ -44,8 +37,7 @@ module _ {K : Type 0} (task : Task K) (live dead : List ListedClass) where
   class_left : (k class : ℕ) → k < length live
       → slice_get (classes_of (live ++ dead)) k ≡ Some class
       → slice_get (classes_of live) k ≡ Some class
-  class_left k class lt e =
-      slice_get-map (λ (at : ListedClass). at.class) live k
+  class_left k class lt e = slice_get-map (λ (at : ListedClass). at.class) live k
       ∙ (ap (option_map (λ (at : ListedClass). at.class)) (sym (get_left live dead k lt))
       ∙ (sym (slice_get-map (λ (at : ListedClass). at.class) (live ++ dead) k) ∙ e))
 
@@ -59,8 +51,7 @@ module _ {K : Type 0} (task : Task K) (live dead : List ListedClass) where
         arith,
         lt,
         long,
-      )))
-      ∙ (sym (slice_get-map (λ (at : ListedClass). at.class) live k) ∙ e))
+      ))) ∙ (sym (slice_get-map (λ (at : ListedClass). at.class) live k) ∙ e))
 
   -- before the first block
   pub live_none : (was rest : List K) → length was ≡ length live
@@ -68,8 +59,7 @@ module _ {K : Type 0} (task : Task K) (live dead : List ListedClass) where
       → AreKeptUpTo task (classes_of live) 0 task.from was
   live_none was rest long none = record {
     count = long ∙ sym (length-map live (λ (at : ListedClass). at.class));
-    each = λ hits k class n one ec ek h up.
-        none.each hits k class n one (class_stays k class ec)
+    each = λ hits k class n one ec ek h up. none.each hits k class n one (class_stays k class ec)
         (get_left was rest k (slice_get_within was k one ek) ∙ ek) h up;
   }
 
@@ -91,8 +81,7 @@ module _ {K : Type 0} (task : Task K) (b : BelongTogether task.job) (live dead :
       → ArePassed task (classes_of live) worker S 0 (blocks (length task.job.tests.tests))
       → ((block : ℕ) → task.from ≤ block → block < blocks (length task.job.tests.tests)
       → AreAllNotStopped dead worker S block (length dead))
-      → ArePassed task (classes_of (live ++ dead)) worker S 0
-      (blocks (length task.job.tests.tests))
+      → ArePassed task (classes_of (live ++ dead)) worker S 0 (blocks (length task.job.tests.tests))
   whole_passed worker S before asked = λ k class block at low e still must.
       go k class block at low e still must (cases_lt k (length live))
     where
@@ -131,8 +120,7 @@ module _ {K : Type 0} (task : Task K) (b : BelongTogether task.job) (live dead :
             (let all = one_count 0 (blocks (length task.job.tests.tests)) k
             (blocks (length task.job.tests.tests)) n
             (done_high 0 (blocks (length task.job.tests.tests)) k (omega arith)) up in
-            omega (arith, low, all))
-            (λ t above below. no_hits k class le ec hits h t)
+            omega (arith, low, all)) (λ t above below. no_hits k class le ec hits h t)
             (none.each hits k class task.from one ec (stays k one le ek) h
             (done_high 0 task.from k (omega arith)))
       ]);
@@ -146,8 +134,7 @@ module _ {K : Type 0} (task : Task K) (b : BelongTogether task.job) (live dead :
 
         stays : (k : ℕ) (one : K) → length live ≤ k → slice_get (found ++ rest) k ≡ Some one
             → slice_get (was ++ rest) k ≡ Some one
-        stays k one le e =
-            get_behind was rest k (omega (arith, le, long))
+        stays k one le e = get_behind was rest k (omega (arith, le, long))
             ∙ (ap (λ n. slice_get rest (k - n)) (sym same)
             ∙ (sym (get_behind found rest k (omega (arith, le, long, same))) ∙ e))
 

@@ -1,28 +1,20 @@
 -- The first tests of faults by the positions of their classes.
-use Rattle.std.proofs.Common.{◌≡◌, ◌<◌, ◌≤◌, ◌+◌, ◌*◌, ℕ, zero, suc, List, []}
-use Rattle.std.proofs.Common.{◌∷◌, ◌++◌, map, take, length, get_or, Option, Some}
-use Rattle.std.proofs.Common.{None, refl, sym, ap, ◌∙◌, subst, arith, add-one}
-use Rattle.std.proofs.Common.{append_assoc, length-append}
-use Rattle.std.specs.Prelude.{slice_get}
-use Rattle.std.proofs.lemmas.List.{length-map}
-use Rattle.std.proofs.lemmas.List.{take_all}
-use Rattle.std.proofs.Math.Nat.{suc-mul}
+use Rattle.std.proofs.Common.{◌≡◌, ◌<◌, ◌≤◌, ◌+◌, ◌*◌, ℕ, zero, suc, List, [], ◌∷◌, ◌++◌, map, take}
+use Rattle.std.proofs.Common.{length, get_or, Option, Some, None, refl, sym, ap, ◌∙◌, subst, arith}
+use Rattle.std.{proofs.Common.{add-one, append_assoc, length-append}, specs.Prelude.slice_get}
+use Rattle.std.proofs.{lemmas.List.{length-map, take_all}, Math.Nat.suc-mul}
 use Rattle.std.proofs.lemmas.List.Sums.{sum_by-cons}
 use Rattle.std.proofs.lemmas.Option.{get_or_from_slice_get, slice_get-get_or, slice_get_within}
 use Rattle.list_lemmas.proofs.Places.{from_mapped}
-use Rattle.fault_model.specs.Fault.{Fault}
-use Rattle.fault_model.specs.Collapse.{IsClassOf}
+use Rattle.fault_model.specs.{Fault.Fault, Collapse.IsClassOf}
 use Rattle.patterns.specs.Tests.{blocks}
-use Rattle.block_sim.specs.First.{IsFirst}
-use Rattle.block_sim.specs.Parts.{Parts, BelongTogether}
-use Rattle.workers.specs.Settling.{shape_for}
+use Rattle.block_sim.specs.{First.IsFirst, Parts.{Parts, BelongTogether}}
+use Rattle.workers.specs.{Settling.shape_for, Verdict.pieces_after}
 use Rattle.workers.specs.Verdict.{AreAfterHits, AreClassFirsts, AreFirsts, blocks_after}
-use Rattle.workers.specs.Verdict.{pieces_after}
 use Rattle.workers.proofs.Public.{class_in, take_more}
 use Rattle.region_runs.specs.FaultFirsts.{AreFirstsFrom, ServesFaults, first_at, firsts_of_faults}
+use Rattle.region_runs.proofs.{PartsOfClasses.behind_within, SumsInOrder.sum_in_order}
 use Rattle.counting_sort.specs.SortedPlaces.{ArePositions}
-use Rattle.region_runs.proofs.PartsOfClasses.{behind_within}
-use Rattle.region_runs.proofs.SumsInOrder.{sum_in_order}
 
 -- ---- shares of faults
 
@@ -30,18 +22,15 @@ use Rattle.region_runs.proofs.SumsInOrder.{sum_in_order}
 pub follow_more : (class_of positions : List ℕ) (firsts : List (Option ℕ)) (start fault class : ℕ)
     (found : List (Option ℕ)) → start + length found ≡ fault
     → map (first_at positions firsts) (take start class_of) ++ found
-    ≡ map (first_at positions firsts) (take fault class_of)
-    → slice_get class_of fault ≡ Some class
+    ≡ map (first_at positions firsts) (take fault class_of) → slice_get class_of fault ≡ Some class
     → map (first_at positions firsts) (take start class_of)
     ++ (found ++ first_at positions firsts class ∷ [])
     ≡ map (first_at positions firsts) (take (fault + 1) class_of)
 follow_more class_of positions firsts start fault class found long was at =
     let g = first_at positions firsts in
     let before = map g (take start class_of) in
-    sym (append_assoc before found (g class ∷ []))
-    ∙ ap (λ l. l ++ g class ∷ []) was
-    ∙ take_more g class_of fault class at
-    ∙ ap (λ n. map g (take n class_of)) (sym (add-one fault))
+    sym (append_assoc before found (g class ∷ [])) ∙ ap (λ l. l ++ g class ∷ []) was
+    ∙ take_more g class_of fault class at ∙ ap (λ n. map g (take n class_of)) (sym (add-one fault))
 
 -- two adjacent shares
 pub firsts_append : (class_of positions : List ℕ) (firsts before more : List (Option ℕ)) (start : ℕ)
@@ -64,8 +53,7 @@ firsts_append class_of positions firsts before more start left is right = record
 pub firsts_whole : (job : Parts) (positions : List ℕ) (firsts found : List (Option ℕ))
     → AreFirstsFrom job.classes.class_of positions firsts 0 found
     → length found ≡ length job.classes.class_of → found ≡ firsts_of_faults job positions firsts
-firsts_whole job positions firsts found are long =
-    are.follow ∙ ap (map (first_at positions firsts))
+firsts_whole job positions firsts found are long = are.follow ∙ ap (map (first_at positions firsts))
     (take_all (0 + length found) job.classes.class_of (omega (arith, long)))
 
 -- the class of a fault has a position, and that a first test
@@ -115,8 +103,7 @@ module _ (job : Parts) (classes positions : List ℕ) (firsts : List (Option ℕ
 
   pub serves_faults : ServesFaults job positions firsts
   serves_faults = record {
-    classes = λ i d lt.
-        class_low i (get_or job.classes.class_of i d)
+    classes = λ i d lt. class_low i (get_or job.classes.class_of i d)
         (slice_get-get_or job.classes.class_of i d lt);
     positions_within = λ class d lt.
         let here = at_position class lt in
@@ -168,18 +155,15 @@ module _ (job : Parts) (classes positions : List ℕ) (firsts : List (Option ℕ
   by_class = firsts_of_classes positions firsts
 
   same_sum : (n : ℕ) → pieces_after n by_class ≡ pieces_after n firsts
-  same_sum n =
-      sum_in_order (blocks_after n) None refl firsts by_class (λ k. get_or classes k 0)
+  same_sum n = sum_in_order (blocks_after n) None refl firsts by_class (λ k. get_or classes k 0)
       (λ class. get_or positions class 0) (omega (arith, long, stand.count, known.count))
       (λ k lt. let x = stand.back k (omega (arith, lt, known.count)) in omega (arith, x.0, long))
-      (λ k lt. (stand.back k (omega (arith, lt, known.count))).1)
-      (λ class lt.
+      (λ k lt. (stand.back k (omega (arith, lt, known.count))).1) (λ class lt.
       let there = stand.each class (omega (arith, lt, long)) in
       let low = slice_get_within classes (get_or positions class 0) class there in (
         omega (arith, low, known.count),
         get_or_from_slice_get classes (get_or positions class 0) class 0 there,
-      ))
-      (λ class lt. first_there firsts positions class (omega (arith, lt, long)))
+      )) (λ class lt. first_there firsts positions class (omega (arith, lt, long)))
     where
       long : length by_class ≡ length positions
       long = length-map positions (λ position. get_or firsts position None)

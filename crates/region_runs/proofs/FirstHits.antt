@@ -1,28 +1,21 @@
 -- What is kept of classes after the blocks of a span more, and the first tests of classes.
-use Rattle.std.proofs.Common.{◌≡◌, ◌<◌, ◌≤◌, ◌+◌, ◌-◌, ◌*◌, ◌/◌, ◌⊎◌, inl, inr, ℕ, zero, suc}
-use Rattle.std.proofs.Common.{Bool, true, false, List, All, Option, Some, None, length, refl, sym}
-use Rattle.std.proofs.Common.{ap, ◌∙◌, subst, arith}
-use Rattle.std.specs.Prelude.{slice_get, unwrap_or}
-use Rattle.std.specs.Option.{option_map}
-use Rattle.std.proofs.lemmas.Bool.{cases_lt, false≢true}
+use Rattle.std.proofs.Common.{◌≡◌, ◌<◌, ◌≤◌, ◌+◌, ◌-◌, ◌*◌, ◌/◌, ◌⊎◌, inl, inr, ℕ, zero, suc, Bool}
+use Rattle.std.proofs.Common.{true, false, List, All, Option, Some, None, length, refl, sym, ap}
+use Rattle.std.{proofs.Common.{◌∙◌, subst, arith}, specs.Prelude.{slice_get, unwrap_or}}
+use Rattle.std.{specs.Option.option_map, proofs.lemmas.Bool.{cases_lt, false≢true}}
 use Rattle.std.proofs.lemmas.Option.{get_or_from_slice_get, slice_get-map, slice_get_within}
 use Rattle.list_lemmas.proofs.Places.{from_mapped, place_within}
 use Rattle.fault_model.specs.Detection.{DetectsAt}
-use Rattle.patterns.specs.Least.{Table, least}
-use Rattle.patterns.specs.Tests.{blocks}
-use Rattle.patterns.specs.declared.Outcome.{Outcome}
+use Rattle.patterns.specs.{Least.{Table, least}, Tests.blocks, declared.Outcome.Outcome}
 use Rattle.patterns.specs.declared.Outcome.TheVariants.{Clear, Hit}
-use Rattle.flat_circuit.specs.declared.block_span.BlockSpan.{BlockSpan}
+use Rattle.flat_circuit.specs.{declared.block_span.BlockSpan.BlockSpan, BlockSpans.one_block}
 use Rattle.flat_circuit.specs.declared.origin.ListedClass.{ListedClass}
-use Rattle.flat_circuit.specs.BlockSpans.{one_block}
-use Rattle.block_sim.specs.First.{IsFirst, IsFirstOn, IsTrueOutcome}
-use Rattle.block_sim.specs.Listed.{IsListed}
+use Rattle.block_sim.specs.{First.{IsFirst, IsFirstOn, IsTrueOutcome}, Listed.IsListed}
 use Rattle.block_sim.specs.Parts.{BelongTogether, Parts}
 use Rattle.block_sim.proofs.Public.{least_is_first, true_table}
 use Rattle.region_sim.specs.ClassOrder.{classes_of}
 use Rattle.region_sim.specs.Goals.{AreHits, HasTakenAt, HaveTaken, IsFirstHit}
-use Rattle.workers.specs.Schedule.{IsTableOf}
-use Rattle.workers.specs.Verdict.{AreClassFirsts}
+use Rattle.workers.specs.{Schedule.IsTableOf, Verdict.AreClassFirsts}
 use Rattle.workers.proofs.Public.{class_count}
 use Rattle.region_runs.specs.StretchRuns.{AreEarlier, AreKeptUpTo}
 use Rattle.region_runs.specs.Tasks.{AreKept, IsOpenAtFirst, Task, first_tests}
@@ -31,27 +24,22 @@ use Rattle.region_runs.proofs.StretchRuns.{listed_class, one_count, some_hits}
 
 -- ---- rows and classes
 pub class_there : (rows : List ListedClass) (k : ℕ) (row : ListedClass)
-    → slice_get rows k ≡ Some row
-    → slice_get (classes_of rows) k ≡ Some row.class
-class_there rows k row e =
-    slice_get-map (λ (at : ListedClass). at.class) rows k ∙ ap
+    → slice_get rows k ≡ Some row → slice_get (classes_of rows) k ≡ Some row.class
+class_there rows k row e = slice_get-map (λ (at : ListedClass). at.class) rows k ∙ ap
     (option_map (λ (at : ListedClass). at.class)) e
 
 -- each row stands for a class of the job
 pub row_listed : (job : Parts) (rows : List ListedClass) (k : ℕ) (row : ListedClass)
     → All (IsListed job) rows → slice_get rows k ≡ Some row → IsListed job row
-row_listed job rows k row all e =
-    subst (IsListed job) (get_or_from_slice_get rows k row row e)
+row_listed job rows k row all e = subst (IsListed job) (get_or_from_slice_get rows k row row e)
     (all k row (slice_get_within rows k row e))
 
 -- ---- there is one first hit
 pub one_first : (hits : ℕ → Bool) (low high : ℕ) (first other : Option ℕ)
     → IsFirstHit hits low high first → IsFirstHit hits low high other → first ≡ other
 one_first hits low high None None a b = refl
-one_first hits low high (Some t) None a b =
-    absurd (false≢true (sym (b t a.0 a.1) ∙ a.2))
-one_first hits low high None (Some t) a b =
-    absurd (false≢true (sym (a t b.0 b.1) ∙ b.2))
+one_first hits low high (Some t) None a b = absurd (false≢true (sym (b t a.0 a.1) ∙ a.2))
+one_first hits low high None (Some t) a b = absurd (false≢true (sym (a t b.0 b.1) ∙ b.2))
 one_first hits low high (Some t) (Some s) a b = go (cases_lt t s) (cases_lt s t)
   where
     go : (t < s) ⊎ (s ≤ t) → (s < t) ⊎ (t ≤ s) → Some t ≡ Some s
@@ -67,8 +55,7 @@ module _ (job : Parts) (b : BelongTogether job) (class : ℕ)
     -- a test of a block that isn't its first hit
     miss : (block t : ℕ) → 64 * block ≤ t → t < 64 * block + 64
         → ((k : ℕ) → 64 * block + k ≡ t → t < length job.tests.tests
-        → DetectsAt job.circuit job.tests.tests h.0 t → ⊥)
-        → hits t ≡ false
+        → DetectsAt job.circuit job.tests.tests h.0 t → ⊥) → hits t ≡ false
     miss block t low high none = go (hits t) refl
       where
         go : (v : Bool) → hits t ≡ v → hits t ≡ false
@@ -86,8 +73,7 @@ module _ (job : Parts) (b : BelongTogether job) (class : ℕ)
         same : true_is.0 ≡ h.0
         same = ap (λ o. unwrap_or o true_is.0) (sym true_is.1 ∙ h.1)
 
-        go : (t : ℕ) → t < 64 * block + 64 → (t < 64 * block) ⊎ (64 * block ≤ t)
-            → hits t ≡ false
+        go : (t : ℕ) → t < 64 * block + 64 → (t < 64 * block) ⊎ (64 * block ≤ t) → hits t ≡ false
         go t below (inl before) = none t (omega arith) before
         go t below (inr after) = miss block t after below (λ k at listed d.
             true_is.2 k (omega (arith, at, listed, below))
@@ -106,8 +92,7 @@ module _ (job : Parts) (b : BelongTogether job) (class : ℕ)
         same : true_is.0 ≡ h.0
         same = ap (λ o. unwrap_or o true_is.0) (sym true_is.1 ∙ h.1)
 
-        go : (t : ℕ) → t < 64 * block + k → (t < 64 * block) ⊎ (64 * block ≤ t)
-            → hits t ≡ false
+        go : (t : ℕ) → t < 64 * block + k → (t < 64 * block) ⊎ (64 * block ≤ t) → hits t ≡ false
         go t below (inl before) = none t (omega arith) before
         go t below (inr after) =
             let within = (true_is.2).0 in
@@ -129,8 +114,7 @@ module _ (job : Parts) (b : BelongTogether job) (class : ℕ)
         next = omega arith
 
         go : IsFirstHit hits 0 (64 * n) (least table n class) → (o : Option ℕ)
-            → least table n class ≡ o
-            → IsFirstHit hits 0 (64 * (n + 1)) (least table (n + 1) class)
+            → least table n class ≡ o → IsFirstHit hits 0 (64 * (n + 1)) (least table (n + 1) class)
         go before (Some t) e =
             let was = subst (IsFirstHit hits 0 (64 * n)) e before in
             let below = was.1 in
@@ -158,8 +142,7 @@ module _ (job : Parts) (b : BelongTogether job) (class : ℕ)
             from = omega arith;
             to = omega arith;
             listed = place_within job.tests.tests t d.0 d.1;
-          })
-          (subst (λ r. DetectsAt job.circuit job.tests.tests r t) (sym same) d))
+          }) (subst (λ r. DetectsAt job.circuit job.tests.tests r t) (sym same) d))
 
 -- ---- what is kept of rows
 module _ {K : Type 0} (task : Task K) (rows : List ListedClass) (span : BlockSpan)
@@ -193,8 +176,7 @@ module _ {K : Type 0} (task : Task K) (rows : List ListedClass) (span : BlockSpa
     each = λ hits k class n one ec ek h earlier.
         subst (λ m. task.means hits (64 * task.from) (64 * m) one)
         (one_count 0 (span.last + 1) k (span.last + 1) n
-        (done_high 0 (span.last + 1) k (omega arith)) earlier)
-        (row_kept hits k class one ec ek h
+        (done_high 0 (span.last + 1) k (omega arith)) earlier) (row_kept hits k class one ec ek h
         (λ row at. taken k row (omega arith) (slice_get_within rows k row at) at));
   }
 
@@ -217,8 +199,7 @@ module _ {K : Type 0} (task : Task K) (rows : List ListedClass) (span : BlockSpa
       go hits k class n one ec ek h earlier (inl lt) =
           subst (λ m. task.means hits (64 * task.from) (64 * m) one) (ap (λ m. m + 1) alone
           ∙ one_count place span.first k (span.first + 1) n (done_low place span.first k lt)
-          earlier)
-          (row_kept hits k class one ec ek h (λ row at. taken k row lt at))
+          earlier) (row_kept hits k class one ec ek h (λ row at. taken k row lt at))
       go hits k class n one ec ek h earlier (inr le) =
           subst (λ m. task.means hits (64 * task.from) (64 * m) one)
           (one_count place span.first k span.first n (done_high place span.first k le) earlier)

@@ -1,12 +1,9 @@
 -- The words of a window's blocks fit its number of tests.
 use Rattle.std.proofs.Common.{◌≡◌, ◌⊎◌, ◌<◌, ◌≤◌, ◌+◌, ◌*◌, ◌-◌, ◌/◌, ◌%◌, ◌^◌, ◌∙◌, inl, inr, ℕ}
 use Rattle.std.proofs.Common.{List, [], sym, ap, subst, arith, length, get_or, min, false}
-use Rattle.std.proofs.lemmas.Bool.{cases_lt}
-use Rattle.std.proofs.lemmas.List.{get_or_past}
-use Rattle.std.proofs.lemmas.Nat.{pow_pos}
+use Rattle.std.proofs.lemmas.{Bool.cases_lt, List.get_or_past, Nat.pow_pos}
 use Rattle.std.proofs.lemmas.Nat.Bits.{bit_at_above, bit_at_cat_low, same_from_bits_below}
-use Rattle.std.proofs.Math.Nat.{div-add-mod, min-eq_left, min-eq_right, mod-lt}
-use Rattle.std.specs.Int.{bit_at}
+use Rattle.std.{proofs.Math.Nat.{div-add-mod, min-eq_left, min-eq_right, mod-lt}, specs.Int.bit_at}
 use Rattle.fault_model.specs.Solution.{Test}
 use Rattle.patterns.specs.Making.{HasIdleBit, IsWordsRefusal, word_of}
 use Rattle.patterns.specs.Tests.{IsTestList, TestList, as_number, bit, blocks, size_of}
@@ -30,8 +27,7 @@ small_word word lanes fits none = subst (λ n. n < 2 ^ lanes) (sym same) low
 
     each : (lane : ℕ) → lane < 64 → (lane < lanes) ⊎ (lanes ≤ lane)
         → bit_at word lane ≡ bit_at (word % 2 ^ lanes) lane
-    each lane lt (inl x) =
-        ap (λ n. bit_at n lane) (sym whole)
+    each lane lt (inl x) = ap (λ n. bit_at n lane) (sym whole)
         ∙ bit_at_cat_low (word / 2 ^ lanes) lanes (word % 2 ^ lanes) lane x
     each lane lt (inr x) = none lane x lt ∙ sym (bit_at_above (word % 2 ^ lanes) lanes lane low x)
 

@@ -1,16 +1,14 @@
 -- What is kept of classes, joined with what was found of a window.
 use Rattle.std.proofs.Common.{◌≡◌, ◌≢◌, ◌⊎◌, ◌<◌, ◌≤◌, ◌+◌, ◌-◌, ◌++◌, ◌∙◌, inl, inr, ℕ, zero, suc}
-use Rattle.std.proofs.Common.{List, []}
-use Rattle.std.proofs.Common.{◌∷◌, All, Bool, Option, Some, None, true, false, refl, sym, ap, subst}
-use Rattle.std.proofs.Common.{arith, cond, get_or, length}
+use Rattle.std.proofs.Common.{List, [], ◌∷◌, All, Bool, Option, Some, None, true, false, refl, sym}
+use Rattle.std.proofs.Common.{ap, subst, arith, cond, get_or, length}
 use Rattle.std.specs.Prelude.{count_by, is_some, slice_get, take}
 use Rattle.std.proofs.lemmas.Bool.{cases_eq, cases_lt, false≢true}
 use Rattle.std.proofs.lemmas.List.Sums.{count_by-le-length, count_by_more_no, count_by_more_yes}
 use Rattle.std.proofs.lemmas.List.Sums.{sum_by-cons, sum_by-take-le}
 use Rattle.std.proofs.lemmas.Option.{get_or_from_slice_get, slice_get-get_or, slice_get_within}
 use Rattle.region_sim.specs.Goals.{IsFirstHit}
-use Rattle.region_runs.specs.Joins.{HasJoinedAt, IsJoinedAt, Joins}
-use Rattle.region_runs.specs.WindowLedgers.{open_classes}
+use Rattle.region_runs.specs.{Joins.{HasJoinedAt, IsJoinedAt, Joins}, WindowLedgers.open_classes}
 
 -- ---- the first test
 pub none_of : (first : Option ℕ) → is_some first ≡ false → first ≡ None
@@ -86,8 +84,7 @@ open_counted {K} wants x y classes kept false e rest =
     ∙ (rest ∙ sym (count_no wants y kept e))
 
 pub open_count : {K : Type 0} (wants : K → Bool) (classes : List ℕ) (kept : List K)
-    → length kept ≡ length classes
-    → length (open_classes wants classes kept) ≡ count_by wants kept
+    → length kept ≡ length classes → length (open_classes wants classes kept) ≡ count_by wants kept
 open_count {K} wants [] [] same = refl
 open_count {K} wants [] (y ∷ kept) same = absurd (omega (arith, same))
 open_count {K} wants (x ∷ classes) [] same = absurd (omega (arith, same))
@@ -151,13 +148,11 @@ behind {K} wants x y classes kept k class true e at =
     (open_yes wants x y classes kept e) ∙ at)
 behind {K} wants x y classes kept k class false e at =
     ap (λ n. slice_get (open_classes wants (x ∷ classes) (y ∷ kept)) n)
-    (count_no wants y (take k kept) e)
-    ∙ (ap (λ l. slice_get l (count_by wants (take k kept)))
+    (count_no wants y (take k kept) e) ∙ (ap (λ l. slice_get l (count_by wants (take k kept)))
     (open_no wants x y classes kept e) ∙ at)
 
 pub open_there : {K : Type 0} (wants : K → Bool) (classes : List ℕ) (kept : List K) (k class : ℕ)
-    (old : K) → slice_get classes k ≡ Some class → slice_get kept k ≡ Some old
-    → wants old ≡ true
+    (old : K) → slice_get classes k ≡ Some class → slice_get kept k ≡ Some old → wants old ≡ true
     → slice_get (open_classes wants classes kept) (count_by wants (take k kept)) ≡ Some class
 open_there {K} wants [] kept k class old at there w =
     absurd (let bad : None ≡ Some class = at in cc)

@@ -1,22 +1,13 @@
 -- Places that are left out of a list: those at which nothing is open.
-use Rattle.std.proofs.Common.{◌≡◌, ◌≢◌, ◌<◌, ◌≤◌, ◌+◌, ◌⊎◌, inl, inr, ℕ, Bool, false, sym}
-use Rattle.std.proofs.Common.{◌∙◌}
+use Rattle.std.proofs.Common.{◌≡◌, ◌≢◌, ◌<◌, ◌≤◌, ◌+◌, ◌⊎◌, inl, inr, ℕ, Bool, false, sym, ◌∙◌}
 use Rattle.std.proofs.Common.{List, Some, ap, subst, length, set, arith}
 use Rattle.std.specs.Prelude.{slice_get, unwrap_or}
 use Rattle.std.proofs.lemmas.Bool.{cases_eq, cases_lt, false≢true}
 use Rattle.std.proofs.lemmas.List.{get_or-set_same, get_or-set_other, length-set}
 use Rattle.std.proofs.lemmas.Option.{get_or_from_slice_get, slice_get-get_or, slice_get_within}
 use Rattle.flat_circuit.specs.declared.origin.ListedClass.{ListedClass}
-use Rattle.region_sim.specs.OpenPlaces.{AreNextOpen, AreSettled}
-use Rattle.region_sim.specs.RegionHits.{IsOpenAt}
-
--- the element at a place of a list that was written to
-pub get_set_here : {X : Type 0} (xs : List X) (i : ℕ) (x : X) → i < length xs
-    → slice_get (set xs i x) i ≡ Some x
-get_set_here xs i x lt =
-    let long = length-set xs i x in
-    slice_get-get_or (set xs i x) i x (omega (arith, lt, long))
-    ∙ ap Some (get_or-set_same xs i x x lt)
+use Rattle.region_sim.specs.{OpenPlaces.{AreNextOpen, AreSettled}, RegionHits.IsOpenAt}
+pub use Rattle.flat_circuit.proofs.Public.{set_here as get_set_here}
 
 pub get_set_other : {X : Type 0} (xs : List X) (i k : ℕ) (x y : X) → k ≢ i
     → slice_get (set xs i x) k ≡ Some y → slice_get xs k ≡ Some y
@@ -38,8 +29,7 @@ settled_over {K} is_open kept from place to one before here closed after k le lt
     low_or_high (inl low) ne = before k le low
     low_or_high (inr high) ne = after k (omega (arith, high, ne)) lt
 
-    go : (k ≡ place) ⊎ (k ≢ place)
-        → (x : K) × (slice_get kept k ≡ Some x) × (is_open x ≡ false)
+    go : (k ≡ place) ⊎ (k ≢ place) → (x : K) × (slice_get kept k ≡ Some x) × (is_open x ≡ false)
     go (inl same) = (one, ap (slice_get kept) same ∙ here, closed)
     go (inr ne) = low_or_high (cases_lt k place) ne
 
@@ -69,8 +59,7 @@ left_out is_open kept next before place q low le is settled was = record {
         → ((p ≡ before) × (n ≡ q)) ⊎ (slice_get next p ≡ Some n)
     stood p n e = go (cases_eq p before)
       where
-        go : (p ≡ before) ⊎ (p ≢ before)
-            → ((p ≡ before) × (n ≡ q)) ⊎ (slice_get next p ≡ Some n)
+        go : (p ≡ before) ⊎ (p ≢ before) → ((p ≡ before) × (n ≡ q)) ⊎ (slice_get next p ≡ Some n)
         go (inl same) =
             let both : Some n ≡ Some q = sym e ∙ (ap (slice_get (set next before q)) same
             ∙ get_set_here next before q low) in

@@ -2,15 +2,12 @@
 use Rattle.std.proofs.Common.{◌≡◌, ◌∙◌, ℕ, List, Option, Some, ap, length, subst}
 use Rattle.std.specs.Prelude.{slice_get}
 use Rattle.bench_net.specs.Statement.{Statement}
-use Rattle.fault_model.specs.Collapse.{Collapsed}
-use Rattle.fault_model.specs.Fault.{FaultList}
+use Rattle.fault_model.specs.{Collapse.Collapsed, Fault.FaultList}
 use Rattle.patterns.specs.Tests.{TestList}
 use Rattle.block_sim.specs.Parts.{Parts, with_tests}
-use Rattle.region_runs.specs.declared.parts.PartVerdict.{PartVerdict}
-use Rattle.region_runs.specs.declared.parts.PartVerdict.TheVariants.{First}
-use Rattle.region_runs.specs.Part.{ArePartOf, stretches_for}
+use Rattle.region_runs.specs.declared.parts.PartVerdict.{PartVerdict, TheVariants.First}
+use Rattle.region_runs.specs.{Part.{ArePartOf, stretches_for}, Tasks.first_tests}
 use Rattle.region_runs.specs.RunJobs.{AreKeptByLedgers, IsPartByLedgers}
-use Rattle.region_runs.specs.Tasks.{first_tests}
 use Rattle.region_runs.proofs.WindowSteps.{part_with}
 
 abbrev parts_with : List Statement → FaultList → Collapsed → TestList → Parts

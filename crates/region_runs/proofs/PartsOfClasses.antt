@@ -1,32 +1,24 @@
 -- Parts are a partition, and the verdicts of runs over them.
-use Rattle.std.proofs.Common.{◌≡◌, ◌<◌, ◌≤◌, ◌+◌, ◌*◌, ◌%◌, ◌^◌, inl, inr, ℕ, Bool, zero}
-use Rattle.std.proofs.Common.{suc, List, [], ◌∷◌, ◌++◌, map, take, drop, length, get_or, All}
-use Rattle.std.proofs.Common.{Option, Some, None, refl, sym, ap, ◌∙◌, subst, arith, replicate}
-use Rattle.std.proofs.Common.{add-one}
-use Rattle.std.specs.Prelude.{slice_get}
+use Rattle.std.proofs.Common.{◌≡◌, ◌<◌, ◌≤◌, ◌+◌, ◌*◌, ◌%◌, ◌^◌, inl, inr, ℕ, Bool, zero, suc, List}
+use Rattle.std.proofs.Common.{[], ◌∷◌, ◌++◌, map, take, drop, length, get_or, All, Option, Some}
+use Rattle.std.proofs.Common.{None, refl, sym, ap, ◌∙◌, subst, arith, replicate, add-one}
+use Rattle.std.{specs.Prelude.slice_get, proofs.Math.Seq.take-add}
+use Rattle.std.proofs.Math.Nat.{mod-lt, mul_comm, mul-le-mul_left, suc-mul}
+use Rattle.std.proofs.lemmas.{Grind.div_ceil_times, List.{length-map, take_all}}
+use Rattle.std.proofs.lemmas.Option.{get_or_from_slice_get, slice_get-get_or, slice_get_within}
+use Rattle.std.proofs.lemmas.List.Elements.{All-drop, All-take}
 use Rattle.flat_circuit.specs.Regions.{IsStemOfClass}
 use Rattle.flat_circuit.proofs.Public.{class_has_stem, one_class_stem}
-use Rattle.std.proofs.Math.Nat.{mod-lt, mul_comm, mul-le-mul_left, suc-mul}
 use Rattle.patterns.specs.Tests.{blocks}
-use Rattle.std.proofs.Math.Seq.{take-add}
-use Rattle.std.proofs.lemmas.Grind.{div_ceil_times}
-use Rattle.std.proofs.lemmas.Option.{get_or_from_slice_get, slice_get-get_or}
-use Rattle.std.proofs.lemmas.Option.{slice_get_within}
-use Rattle.std.proofs.lemmas.List.{length-map, take_all}
-use Rattle.std.proofs.lemmas.List.Elements.{All-drop, All-take}
 use Rattle.list_lemmas.proofs.Places.{from_mapped}
-use Rattle.fault_model.specs.Fault.{Fault}
-use Rattle.fault_model.specs.Collapse.{IsClassOf}
+use Rattle.fault_model.specs.{Fault.Fault, Collapse.IsClassOf}
 use Rattle.block_sim.specs.Parts.{Parts, BelongTogether}
-use Rattle.workers.specs.Settling.{shape_for}
-use Rattle.workers.specs.Verdict.{AreClassFirsts, blocks_after}
+use Rattle.workers.specs.{Settling.shape_for, Verdict.{AreClassFirsts, blocks_after}}
 use Rattle.workers.proofs.Public.{class_count, class_in}
-use Rattle.region_runs.specs.declared.parts.PartVerdict.{PartVerdict}
+use Rattle.region_runs.specs.{declared.parts.PartVerdict.PartVerdict, Cut.IsCutOf}
 use Rattle.region_runs.specs.declared.parts.PartVerdict.TheVariants.{First, OtherPart}
 use Rattle.region_runs.specs.Part.{AreClassVerdicts, ArePartOf, ArePartVerdicts, IsClassVerdict}
-use Rattle.region_runs.specs.Part.{IsInOnePart, IsOfPart, IsPartVerdict}
-use Rattle.region_runs.specs.Part.{stretch_at, stretch_size}
-use Rattle.region_runs.specs.Cut.{IsCutOf}
+use Rattle.region_runs.specs.Part.{IsInOnePart, IsOfPart, IsPartVerdict, stretch_at, stretch_size}
 use Rattle.region_runs.specs.Tasks.{AreKept, Task}
 use Rattle.region_sim.specs.Goals.{AreHits}
 
@@ -119,12 +111,10 @@ part_verdicts job parts part classes firsts table verdicts b own found by is = r
     go : (f : Fault) (class : ℕ) → class < count → IsClassOf job.list.model job.circuit f class
         → IsClassVerdict classes firsts (length classes) class (slice_get table class)
         → IsPartVerdict job parts part class f (get_or table class OtherPart)
-    go f class lt of (inl x) =
-        subst (IsPartVerdict job parts part class f)
+    go f class lt of (inl x) = subst (IsPartVerdict job parts part class f)
         (sym (get_or_from_slice_get table class (First x.1) OtherPart x.5))
         ((own.each x.0 class x.3).1, found.first x.0 class f x.1 x.3 of x.4)
-    go f class lt of (inr x) =
-        subst (IsPartVerdict job parts part class f)
+    go f class lt of (inr x) = subst (IsPartVerdict job parts part class f)
         (sym (get_or_from_slice_get table class OtherPart OtherPart x.1))
         (λ here. let k = own.all class lt here in
         x.0 k.0 (slice_get_within classes k.0 class k.1) k.1)
@@ -161,8 +151,7 @@ kept_none {K} task classes = record {
 
 -- one stretch more
 pub kept_more : {K : Type 0} (task : Task K) (classes : List ℕ) (size stretch : ℕ)
-    (kept more : List K)
-    → AreKeptBelow task classes (stretch * size) kept
+    (kept more : List K) → AreKeptBelow task classes (stretch * size) kept
     → AreKept task (stretch_at size classes stretch) more
     → AreKeptBelow task classes ((stretch + 1) * size) (kept ++ more)
 kept_more {K} task classes size stretch kept more was found =
@@ -180,8 +169,7 @@ kept_more {K} task classes size stretch kept more was found =
 -- all stretches have all classes
 pub kept_all : {K : Type 0} (task : Task K) (stretches size : ℕ) (classes : List ℕ) (kept : List K)
     → IsCutOf task.job task.from stretches size classes
-    → AreKeptBelow task classes (stretches * size) kept
-    → AreKept task classes kept
+    → AreKeptBelow task classes (stretches * size) kept → AreKept task classes kept
 kept_all {K} task stretches size classes kept cut found =
     subst (λ l. AreKept task l kept) (take_all (stretches * size) classes long) found
   where

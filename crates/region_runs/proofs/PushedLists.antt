@@ -1,7 +1,7 @@
 -- The elements of lists with one element more at the end.
-use Rattle.std.proofs.Common.{◌≡◌, ◌⊎◌, inl, inr, ℕ, zero, suc, List, [], ◌∷◌, ◌++◌, length}
-use Rattle.std.proofs.Common.{None, Some, refl, subst}
-use Rattle.std.specs.Prelude.{slice_get}
+use Rattle.std.proofs.Common.{◌≡◌, ◌⊎◌, inl, inr, ℕ, zero, suc, List, [], ◌∷◌, ◌++◌, length, None}
+use Rattle.std.{proofs.Common.{Some, refl, subst}, specs.Prelude.slice_get}
+pub use Rattle.flat_circuit.proofs.Public.{pushed_get as pushed}
 
 -- a property of each element at its place holds for one element more
 pub push_each : {X : Type 0} (P : ℕ → X → Type 0) (xs : List X) (x : X)
@@ -12,13 +12,6 @@ push_each P [] x before last (suc i) y at = let bad : None ≡ Some y = at in ab
 push_each P (z ∷ xs) x before last zero y at = before 0 y at
 push_each P (z ∷ xs) x before last (suc i) y at =
     push_each (λ j. P (suc j)) xs x (λ j. before (suc j)) last i y at
-
--- an element stood there before, or is the one at the end
-pub pushed : {X : Type 0} (xs : List X) (x y : X) (i : ℕ) → slice_get (xs ++ x ∷ []) i ≡ Some y
-    → (slice_get xs i ≡ Some y) ⊎ ((i ≡ length xs) × (x ≡ y))
-pushed {X} xs x y i at = push_each
-    (λ (j : ℕ) (z : X). (slice_get xs j ≡ Some z) ⊎ ((j ≡ length xs) × (x ≡ z))) xs x
-    (λ j z e. inl e) (inr (refl, refl)) i y at
 
 -- an element stays at its place if more elements follow
 pub kept : {X : Type 0} (xs ys : List X) (k : ℕ) (x : X) → slice_get xs k ≡ Some x

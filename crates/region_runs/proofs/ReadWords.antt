@@ -1,7 +1,6 @@
 -- The windows whose words a reader reads.
 use Rattle.std.proofs.Common.{◌≡◌, ◌+◌, ◌*◌, ◌∙◌, ℕ, ap, arith, inl, length, refl}
-use Rattle.std.specs.Prelude.{slice_get}
-use Rattle.std.proofs.lemmas.Option.{slice_get_within}
+use Rattle.std.{specs.Prelude.slice_get, proofs.lemmas.Option.slice_get_within}
 use Rattle.patterns.specs.Tests.{TestList, blocks}
 use Rattle.block_sim.specs.Parts.{Parts, with_tests}
 use Rattle.region_runs.specs.declared.windows.Window.{Window}

@@ -1,16 +1,12 @@
 -- The results of workers, by stretch and all together.
-use Rattle.std.proofs.Common.{◌≡◌, ◌≢◌, ◌≤◌, ◌⊎◌, inl, inr, ℕ, zero, suc, List, [], ◌∷◌, ◌++◌}
-use Rattle.std.proofs.Common.{set, length, All, Option, Some, None, IfSome, refl, sym, ap, ◌∙◌}
-use Rattle.std.proofs.Common.{subst, arith, length-append}
-use Rattle.std.specs.Prelude.{slice_get, Result, Ok}
-use Rattle.std.specs.declared.vec.Vec.{Vec}
-use Rattle.std.proofs.lemmas.List.{length-set}
+use Rattle.std.proofs.Common.{◌≡◌, ◌≢◌, ◌≤◌, ◌⊎◌, inl, inr, ℕ, zero, suc, List, [], ◌∷◌, ◌++◌, set}
+use Rattle.std.proofs.Common.{length, All, Option, Some, None, IfSome, refl, sym, ap, ◌∙◌, subst}
+use Rattle.std.{proofs.Common.{arith, length-append}, specs.Prelude.{slice_get, Result, Ok}}
+use Rattle.std.{specs.declared.vec.Vec.Vec, proofs.lemmas.List.length-set}
 use Rattle.std.proofs.lemmas.Option.{get_or_from_slice_get, slice_get_within}
 use Rattle.fault_ledger.specs.Seats.{Sitter}
-use Rattle.region_runs.specs.declared.stretch_workers.Done.{Done}
-use Rattle.region_runs.specs.declared.stretch_workers.Served.{Served}
-use Rattle.region_runs.specs.StretchRuns.{AreGivenBack, ArePut}
-use Rattle.region_runs.specs.Stretches.{AreApart}
+use Rattle.region_runs.specs.declared.stretch_workers.{Done.Done, Served.Served}
+use Rattle.region_runs.specs.{StretchRuns.{AreGivenBack, ArePut}, Stretches.AreApart}
 use Rattle.region_runs.proofs.PushedLists.{between_others, kept, last_of, pushed}
 
 -- the elements of a list with one place set
@@ -29,8 +25,7 @@ set_place (z ∷ xs) (suc i) (suc k) x y e = go (set_place xs i k x y e)
 
 -- a place that is set is not empty
 set_full : {K : Type 0} (xs : List (Option (Done K))) (i : ℕ) (d : Done K)
-    → slice_get (set xs i (Some d)) i
-    ≢ Some None
+    → slice_get (set xs i (Some d)) i ≢ Some None
 set_full {K} [] i d e = let bad : None ≡ Some None = e in absurd (cc)
 set_full {K} (z ∷ xs) zero d e = let bad : Some (Some d) ≡ Some None = e in absurd (cc)
 set_full {K} (z ∷ xs) (suc i) d e = set_full xs i d e
@@ -51,8 +46,7 @@ put_none {K} was = record {
 
 -- one more was given back, and has no place in the table
 pub put_past : {K : Type 0} (was : List (Option (Done K))) (given : List (Done K)) (now : List
-    (Option (Done K)))
-    (done : Done K) → length now ≤ done.stretch → ArePut was given now
+    (Option (Done K))) (done : Done K) → length now ≤ done.stretch → ArePut was given now
     → ArePut was (given ++ done ∷ []) now
 put_past {K} was given now done high put = record {
   count = put.count;
@@ -76,8 +70,7 @@ put_past {K} was given now done high put = record {
 
 -- or was put at its place
 pub put_more : {K : Type 0} (was : List (Option (Done K))) (given : List (Done K)) (now : List
-    (Option (Done K)))
-    (done : Done K) → ArePut was given now
+    (Option (Done K))) (done : Done K) → ArePut was given now
     → ArePut was (given ++ done ∷ []) (set now done.stretch (Some done))
 put_more {K} was given now done put = record {
   count = length-set now done.stretch (Some done) ∙ put.count;
@@ -88,8 +81,7 @@ put_more {K} was given now done put = record {
 }
   where
     go : (stretch : ℕ) (d : Done K) → ((stretch ≡ done.stretch) × (Some done ≡ Some d))
-        ⊎ (slice_get now stretch ≡ Some (Some d))
-        → (slice_get was stretch ≡ Some (Some d))
+        ⊎ (slice_get now stretch ≡ Some (Some d)) → (slice_get was stretch ≡ Some (Some d))
         ⊎ ((d.stretch ≡ stretch) × (k : ℕ) × (slice_get (given ++ done ∷ []) k ≡ Some d))
     go stretch d (inl x) =
         let same : done ≡ d = let e = x.1 in cc in
@@ -140,8 +132,7 @@ given_none {Z} {K} stretches table count none = record {
 -- of one thread more
 pub given_more : {Z : Type 0} {K : Type 0} (stretches : ℕ) (back : List (Vec (Done K) Z))
     (given : Vec (Done K) Z) (was table : List (Option (Done K))) → AreGivenBack stretches back was
-    → ArePut was given.items table
-    → AreGivenBack stretches (back ++ given ∷ []) table
+    → ArePut was given.items table → AreGivenBack stretches (back ++ given ∷ []) table
 given_more {Z} {K} stretches back given was table before put =
     record {
       count = put.count ∙ before.count;
@@ -166,8 +157,7 @@ given_more {Z} {K} stretches back given was table before put =
         before.all thread own k done x there (put.stays done.stretch e)
     all thread own k done (inr x) there e =
         put.all k done (subst (λ (v : Vec (Done K) Z). slice_get v.items k ≡ Some done)
-        (sym x.1) there)
-        e
+        (sym x.1) there) e
 
 -- ---- seats, and their workers' results
 
@@ -181,8 +171,7 @@ apart_none {K} {E} {Z} = record {
 
 -- of one more
 pub apart_more : {E Z : Type 0} {K : Type 0} (back : List (Result (Served K) E))
-    (seats : List Sitter)
-    (dones : List (Vec (Done K) Z)) (served : Served K) (own : Vec (Done K) Z)
+    (seats : List Sitter) (dones : List (Vec (Done K) Z)) (served : Served K) (own : Vec (Done K) Z)
     → own.items ≡ served.dones.items → AreApart back seats dones
     → AreApart (back ++ Ok served ∷ []) (seats ++ served.seat ∷ []) (dones ++ own ∷ [])
 apart_more {E} {Z} {K} back seats dones served own same was = record {
@@ -230,5 +219,4 @@ pub next_place : {X : Type 0} (yielded rest all items : List X) (place : X) (str
 next_place {X} yielded rest all items place stretch count order step =
     subst (λ n. slice_get all n ≡ Some place) count
     (subst (λ (l : List X). slice_get l (length yielded) ≡ Some place)
-    (ap (λ (l : List X). yielded ++ l) (sym step) ∙ order)
-    (between_others yielded rest place))
+    (ap (λ (l : List X). yielded ++ l) (sym step) ∙ order) (between_others yielded rest place))

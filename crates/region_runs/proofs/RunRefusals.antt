@@ -1,15 +1,11 @@
 -- Errors of runs in stretches.
-use Rattle.std.proofs.Common.{◌≡◌, List, ℕ, length, subst}
-use Rattle.std.specs.Prelude.{Bool}
+use Rattle.std.{proofs.Common.{◌≡◌, List, ℕ, length, subst}, specs.Prelude.Bool}
 use Rattle.block_sim.specs.Parts.{Parts}
-use Rattle.workers.specs.declared.RunFault.{RunFault}
+use Rattle.workers.specs.{declared.RunFault.RunFault, Stops.Stops}
 use Rattle.workers.specs.declared.RunFault.TheVariants as fault
-use Rattle.workers.specs.Stops.{Stops}
-use Rattle.region_runs.specs.Cut.{IsCutOf}
-use Rattle.region_runs.specs.Part.{ArePartOf, stretch_size, stretches_for}
-use Rattle.region_runs.specs.Tasks.{Task, first_tests, task_of}
+use Rattle.region_runs.specs.{Cut.IsCutOf, Part.{ArePartOf, stretch_size, stretches_for}}
+use Rattle.region_runs.specs.{Tasks.{Task, first_tests, task_of}, Refused.IsStretchesFault}
 use Rattle.region_runs.specs.Refused.{IsFaultOfRun, IsListFault, IsOpenFault, IsPartFault}
-use Rattle.region_runs.specs.Refused.{IsStretchesFault}
 use Rattle.region_runs.specs.StretchRuns.{ListWaitsFor, PartWaitsFor, StretchesWaitFor}
 
 -- the errors of stretches under other names of these
@@ -19,8 +15,7 @@ pub fault_under : {K : Type 0} (job : Parts) (wants : K → Bool)
     → IsCutOf job at count size cut → count ≡ stretches → cut ≡ classes
     → IsStretchesFault (task_of job at wants means) size cut count workers P S f
     → IsStretchesFault (task_of job from wants means) (stretch_size
-    (length classes) stretches) classes
-    stretches workers P S f
+    (length classes) stretches) classes stretches workers P S f
 fault_under {K} job wants means at from count stretches size cut classes workers P S f q is e same
     h =
     let task = task_of job from wants means in
@@ -33,8 +28,7 @@ fault_under {K} job wants means at from count stretches size cut classes workers
 pub run_fault : {K : Type 0} (task : Task K) (size : ℕ) (classes : List ℕ) (stretches workers : ℕ)
     (P : Type 0) (S : Stops) (Waits : ℕ → ℕ → Type 0) (f : RunFault)
     → ((class block : ℕ) → StretchesWaitFor task size classes stretches workers S class block
-    → Waits class block)
-    → IsStretchesFault task size classes stretches workers P S f
+    → Waits class block) → IsStretchesFault task size classes stretches workers P S f
     → IsFaultOfRun task.job workers P Waits f
 run_fault {K} task size classes stretches workers P S Waits fault.Memory wait h = h
 run_fault {K} task size classes stretches workers P S Waits fault.Threads wait h = h

@@ -1,27 +1,19 @@
 -- The runs of stretches, one after another.
-use Rattle.std.proofs.Common.{◌≡◌, ◌<◌, ◌+◌, ◌*◌, ◌⊎◌, inl, inr, ℕ, zero, suc}
-use Rattle.std.proofs.Common.{List, [], ◌∷◌, ◌++◌, length, All, Option, Some, None, refl, sym, ap}
-use Rattle.std.proofs.Common.{◌∙◌, subst, arith}
+use Rattle.std.proofs.Common.{◌≡◌, ◌<◌, ◌+◌, ◌*◌, ◌⊎◌, inl, inr, ℕ, zero, suc, List, [], ◌∷◌, ◌++◌}
+use Rattle.std.proofs.Common.{length, All, Option, Some, None, refl, sym, ap, ◌∙◌, subst, arith}
 use Rattle.std.specs.Prelude.{slice_get}
 use Rattle.std.proofs.lemmas.Option.{get_or_from_slice_get, slice_get_within}
 use Rattle.patterns.specs.Tests.{blocks}
 use Rattle.list_lemmas.proofs.Places.{within_place}
 use Rattle.workers.specs.Stops.{Stops}
-use Rattle.region_runs.specs.declared.stretch_run.Stop.{Stop}
-use Rattle.region_runs.specs.declared.stretch_run.Waiting.{Waiting}
-use Rattle.region_runs.specs.declared.stretch_workers.Done.{Done}
-use Rattle.region_runs.specs.StretchRuns.{AreAllKept, AreAllLowest, AreAllStopped}
-use Rattle.region_runs.specs.StretchRuns.{AreKeptUpTo, AreRunsOf, HasEnded, HasPassed}
-use Rattle.region_runs.specs.StretchRuns.{HasRunSo, IsDone, IsLowerOf, IsLowest}
-use Rattle.region_runs.specs.StretchRuns.{IsLowestAt}
-use Rattle.region_runs.specs.StretchRuns.{IsLowestIn, IsOpenIn, IsStopAt, StretchRun}
-use Rattle.region_runs.specs.StretchRuns.{StretchesWaitFor, WaitsIn, at_first, kept_at, run_at}
-use Rattle.region_runs.specs.StretchRuns.{runs_from}
-use Rattle.region_runs.specs.StretchRuns.{unbegun_run}
-use Rattle.region_runs.specs.Part.{stretch_at}
-use Rattle.region_runs.specs.Cut.{IsCutOf}
-use Rattle.region_runs.proofs.PartsOfClasses.{stretch_within}
-use Rattle.region_runs.proofs.PushedLists.{kept, last_of, pushed}
+use Rattle.region_runs.specs.declared.stretch_run.{Stop.Stop, Waiting.Waiting}
+use Rattle.region_runs.specs.{declared.stretch_workers.Done.Done, Part.stretch_at, Cut.IsCutOf}
+use Rattle.region_runs.specs.StretchRuns.{AreAllKept, AreAllLowest, AreAllStopped, AreKeptUpTo}
+use Rattle.region_runs.specs.StretchRuns.{AreRunsOf, HasEnded, HasPassed, HasRunSo, IsDone}
+use Rattle.region_runs.specs.StretchRuns.{IsLowerOf, IsLowest, IsLowestAt, IsLowestIn, IsOpenIn}
+use Rattle.region_runs.specs.StretchRuns.{IsStopAt, StretchRun, StretchesWaitFor, WaitsIn, at_first}
+use Rattle.region_runs.specs.StretchRuns.{kept_at, run_at, runs_from, unbegun_run}
+use Rattle.region_runs.proofs.{PartsOfClasses.stretch_within, PushedLists.{kept, last_of, pushed}}
 use Rattle.region_runs.proofs.StretchRuns.{done_high, lowest_along, lowest_join}
 use Rattle.region_runs.proofs.StretchTables.{AreFoundByStretch, AreWhole, IsWholeAt}
 use Rattle.region_runs.specs.Tasks.{AreKept, IsOpenAtFirst, Task}
@@ -39,8 +31,7 @@ all_kept {K} task classes kept found = record {
 
 -- a worker that leaves no class open was not stopped
 pub not_stopped : {K : Type 0} (task : Task K) (classes : List ℕ) (worker : ℕ) (S : Stops)
-    (stop : Option Stop)
-    (kept : List K) → HasEnded task classes worker S stop kept
+    (stop : Option Stop) (kept : List K) → HasEnded task classes worker S stop kept
     → IsLowest (IsOpenIn task classes stop) None → stop ≡ None
 not_stopped {K} task classes worker S None kept e none = refl
 not_stopped {K} task classes worker S (Some stop) kept e none =
@@ -64,8 +55,7 @@ none_open {K} task classes (Some w) is = absurd is.0
 
 -- one more
 pub runs_push : {K : Type 0} (from size : ℕ) (classes : List ℕ) (stretch : ℕ) (table : List (Option
-    (Done K)))
-    (place : Option (Done K)) → runs_from from size classes stretch (table ++ place ∷ [])
+    (Done K))) (place : Option (Done K)) → runs_from from size classes stretch (table ++ place ∷ [])
     ≡ runs_from from size classes stretch table
     ++ run_at from (stretch_at size classes (stretch + length table)) place ∷ []
 runs_push {K} from size classes stretch [] place =
@@ -80,16 +70,14 @@ runs_push {K} from size classes stretch (x ∷ table) place =
 
 -- as many as there are places
 pub runs_count : {K : Type 0} (from size : ℕ) (classes : List ℕ) (stretch : ℕ) (table : List (Option
-    (Done K)))
-    → length (runs_from from size classes stretch table) ≡ length table
+    (Done K))) → length (runs_from from size classes stretch table) ≡ length table
 runs_count {K} from size classes stretch [] = refl
 runs_count {K} from size classes stretch (x ∷ table) =
     ap suc (runs_count from size classes (stretch + 1) table)
 
 -- the run at a place
 run_from : {K : Type 0} (from size : ℕ) (classes : List ℕ) (stretch : ℕ)
-    (table : List (Option (Done K)))
-    (k : ℕ)
+    (table : List (Option (Done K))) (k : ℕ)
     (place : Option (Done K)) → slice_get table k ≡ Some place
     → slice_get (runs_from from size classes stretch table) k
     ≡ Some (run_at from (stretch_at size classes (stretch + k)) place)
@@ -105,8 +93,7 @@ run_from {K} from size classes stretch (x ∷ table) (suc k) place e =
     ∙ ap (λ n. Some (run_at from (stretch_at size classes n) place)) here
 
 pub run_there : {K : Type 0} (from size : ℕ) (classes : List ℕ) (table : List (Option (Done K)))
-    (stretch : ℕ)
-    (place : Option (Done K)) → slice_get table stretch ≡ Some place
+    (stretch : ℕ) (place : Option (Done K)) → slice_get table stretch ≡ Some place
     → slice_get (runs_from from size classes 0 table) stretch
     ≡ Some (run_at from (stretch_at size classes stretch) place)
 run_there {K} from size classes table stretch place e =
@@ -156,8 +143,7 @@ waits_more {K} task runs run lowest own lower was is lo =
 
 -- a worker that was stopped was so at a piece where its gate may
 stopped_there : {K : Type 0} (task : Task K) (classes : List ℕ) (worker : ℕ) (S : Stops)
-    (stop : Option Stop)
-    (kept : List K) → HasEnded task classes worker S stop kept
+    (stop : Option Stop) (kept : List K) → HasEnded task classes worker S stop kept
     → (at : Stop) → stop ≡ Some at → IsStopAt task classes worker S at
 stopped_there {K} task classes worker S None kept e at is = absurd (cc)
 stopped_there {K} task classes worker S (Some stop) kept e at is = let same : stop ≡ at = cc in
@@ -165,16 +151,14 @@ stopped_there {K} task classes worker S (Some stop) kept e at is = let same : st
 
 -- and the gate let it pass all before
 passed_there : {K : Type 0} (task : Task K) (classes : List ℕ) (worker : ℕ) (S : Stops)
-    (stop : Option Stop)
-    (kept : List K) → HasEnded task classes worker S stop kept
+    (stop : Option Stop) (kept : List K) → HasEnded task classes worker S stop kept
     → HasPassed task classes worker S stop
 passed_there {K} task classes worker S None kept e = e.1
 passed_there {K} task classes worker S (Some stop) kept e = e.2
 
 -- one that was not has taken all tests
 pub not_stopped_kept : {K : Type 0} (task : Task K) (classes : List ℕ) (worker : ℕ) (S : Stops)
-    (stop : Option Stop)
-    (kept : List K) → HasEnded task classes worker S stop kept
+    (stop : Option Stop) (kept : List K) → HasEnded task classes worker S stop kept
     → stop ≡ None → AreKept task classes kept
 not_stopped_kept {K} task classes worker S None kept e is = all_kept task classes kept e.0
 not_stopped_kept {K} task classes worker S (Some stop) kept e is = absurd (cc)
@@ -192,8 +176,7 @@ kept_of_none {K} task own kept e n = record {
 open_within : {K : Type 0} (task : Task K) (size stretch : ℕ) (classes own : List ℕ)
     (stop : Option Stop)
     (class block : ℕ) → All (λ class. class < length task.job.classes.representative) classes
-    → own ≡ stretch_at size classes stretch
-    → IsOpenIn task own stop class block
+    → own ≡ stretch_at size classes stretch → IsOpenIn task own stop class block
     → (class < length task.job.classes.representative) × (block < blocks
     (length task.job.tests.tests))
 open_within {K} task size stretch classes own None class block all is x = absurd x
@@ -235,8 +218,7 @@ pub unbegun_lowest : {K : Type 0} (task : Task K) (own : List ℕ) (lowest : Opt
     → IsLowest (IsOpenIn task own (Some (at_first task.from))) lowest
     → IsLowestIn task (unbegun_run task.from own) lowest
 unbegun_lowest {K} task [] lowest is = lowest_along (IsOpenIn task [] (Some (at_first task.from)))
-    (IsOpenIn task [] None) lowest
-    (λ class block x. let low = x.low in absurd (omega (arith, low)))
+    (IsOpenIn task [] None) lowest (λ class block x. let low = x.low in absurd (omega (arith, low)))
     (λ class block x. absurd x) is
 unbegun_lowest {K} task (class ∷ own) lowest is = is
 
@@ -265,8 +247,7 @@ unbegun_none from (class ∷ own) = refl
 
 -- the result of a worker for a stretch that it ran is at the stretch's place
 begun : {K : Type 0} (from : ℕ) (own : List ℕ) (place : Option (Done K)) (run : StretchRun) (w : ℕ)
-    → run ≡ run_at from own place
-    → run.worker ≡ Some w
+    → run ≡ run_at from own place → run.worker ≡ Some w
     → (done : Done K) × (place ≡ Some done) × (done.worker ≡ w) × (run.stop ≡ done.stop)
 begun {K} from own None run w e q =
     let bad : None ≡ Some w = sym (unbegun_none from own)
@@ -336,8 +317,7 @@ module _ {K : Type 0} (task : Task K) (size : ℕ) (classes : List ℕ) (workers
               (
                 f.1,
                 λ stop q. stopped_there task (stretch_at size classes stretch) done.worker S
-                    done.stop
-                    done.kept.items ended stop q,
+                    done.stop done.kept.items ended stop q,
                 passed_there task (stretch_at size classes stretch) done.worker S done.stop
                     done.kept.items ended,
               ),
@@ -361,16 +341,14 @@ module _ {K : Type 0} (task : Task K) (size : ℕ) (classes : List ℕ) (workers
         go stretch (Some done) at still_open =
             let f = found.each stretch done at in
             subst (λ s. IsOpenIn task (stretch_at size classes stretch) s class block)
-            (f.2.passed p)
-            still_open
+            (f.2.passed p) still_open
         go stretch None at still_open =
             (found.none stretch at (unbegun_open task (stretch_at size classes stretch) class block
             still_open)).0 p
 
     -- the lowest class that waits
     pub stretches_wait : (stretches class block : ℕ)
-        → IsCutOf task.job task.from stretches size classes
-        → length table ≡ stretches
+        → IsCutOf task.job task.from stretches size classes → length table ≡ stretches
         → IsLowest (WaitsIn task runs) (Some (record { class = class; block = block }))
         → (class < length task.job.classes.representative)
         × (block < blocks (length task.job.tests.tests))
@@ -379,8 +357,7 @@ module _ {K : Type 0} (task : Task K) (size : ℕ) (classes : List ℕ) (workers
         let x = low.0 in
         let own = (runs_are.each x.0 x.1 x.2).0 in
         let within = open_within task size x.0 classes x.1.classes x.1.stop class block cut.within
-        own
-        x.3 in (
+        own x.3 in (
           within.0,
           within.1,
           λ p. none_waits p class block x,
@@ -401,8 +378,7 @@ module _ {K : Type 0} (task : Task K) (size : ℕ) (classes : List ℕ) (workers
         go (Some done) at =
             let f = found.each stretch done at in
             subst (λ n. IsLowest (IsOpenIn task (stretch_at size classes n) done.stop) done.waiting)
-            f.0
-            f.2.lowest
+            f.0 f.2.lowest
 
     -- if no class waits, all places are whole
     pub none_whole : IsOpenAtFirst task → IsLowest (WaitsIn task runs) None
@@ -420,8 +396,7 @@ module _ {K : Type 0} (task : Task K) (size : ℕ) (classes : List ℕ) (workers
             pick None e = e
             pick (Some v) e =
                 let own = subst (IsLowest (IsOpenIn task
-                (stretch_at size classes stretch) done.stop)) e
-                low in
+                (stretch_at size classes stretch) done.stop)) e low in
                 absurd (none v.class v.block (
                   stretch,
                   run_at task.from (stretch_at size classes stretch) (Some done),

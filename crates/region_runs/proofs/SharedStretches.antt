@@ -1,12 +1,9 @@
 -- The results of workers at a closed ledger of stretches.
 use Rattle.std.proofs.Common.{◌≡◌, ◌≢◌, ◌<◌, ◌≤◌, ◌+◌, ◌*◌, ◌⊎◌, inl, inr, ℕ, zero, suc, List, []}
 use Rattle.std.proofs.Common.{◌∷◌, ◌++◌, length, All, Option, Some, None, refl, sym, ap, ◌∙◌, subst}
-use Rattle.std.proofs.Common.{◌/◌, arith, take, drop, max, append-nil}
-use Rattle.std.specs.Prelude.{is_none, slice_get, Result, Ok, Err, IfOk}
-use Rattle.std.specs.Int.{div_ceil}
-use Rattle.std.specs.declared.vec.Vec.{Vec}
-use Rattle.std.proofs.lemmas.Bool.{cases_lt}
-use Rattle.std.proofs.lemmas.Grind.{div_ceil_times}
+use Rattle.std.{proofs.Common.{◌/◌, arith, take, drop, max, append-nil}, specs.Int.div_ceil}
+use Rattle.std.specs.{Prelude.{is_none, slice_get, Result, Ok, Err, IfOk}, declared.vec.Vec.Vec}
+use Rattle.std.proofs.lemmas.{Bool.cases_lt, Grind.div_ceil_times}
 use Rattle.std.proofs.lemmas.List.{get_or-drop, get_or-take, length-drop, length-take}
 use Rattle.std.proofs.lemmas.List.Sums.{count_by-le-length, length-filter}
 use Rattle.std.proofs.lemmas.Option.{get_or_from_slice_get, slice_get-get_or, slice_get_within}
@@ -14,51 +11,36 @@ use Rattle.std.proofs.Math.Nat.{div-add-mod, div-zero, mul-le-mul_right, mul-one
 use Rattle.std.proofs.Math.Nat.{mul_comm, suc-mul, zero-mul}
 use Rattle.patterns.specs.Tests.{max_pieces}
 use Rattle.bench_net.specs.Circuit.{max_signals, max_sinks}
-use Rattle.fault_model.specs.Collapse.{next}
-use Rattle.fault_model.specs.Fault.{faults}
-use Rattle.fault_model.proofs.Public.{faults_within}
+use Rattle.fault_model.{specs.Collapse.next, specs.Fault.faults, proofs.Public.faults_within}
 use Rattle.block_sim.specs.Parts.{Parts, BelongTogether}
-use Rattle.fault_ledger.specs.declared.Event.{Event}
-use Rattle.fault_ledger.specs.declared.Shape.{Shape}
-use Rattle.fault_ledger.specs.declared.PieceState.TheVariants as state
-use Rattle.fault_ledger.specs.declared.Finish.{Finish}
-use Rattle.fault_ledger.specs.declared.Finish.TheVariants as finish_is
+use Rattle.fault_ledger.specs.declared.{Event.Event, Shape.Shape, Finish.Finish}
 use Rattle.fault_ledger.specs.History.{History, ContinuesWithout, claims, entry, held_by}
-use Rattle.fault_ledger.specs.History.{block_count, piece_at, piece_count}
-use Rattle.fault_ledger.specs.Answer.{IsLegal}
-use Rattle.fault_ledger.specs.Settled.{finish}
+use Rattle.fault_ledger.specs.{History.{block_count, piece_at, piece_count}, Answer.IsLegal}
+use Rattle.fault_ledger.{specs.Settled.finish, proofs.Public.unclaimed_open}
 use Rattle.fault_ledger.specs.Seats.{ClosedFace, Closes, Place, Sitter, closed_face}
 use Rattle.fault_ledger.proofs.Public.{claim_accepted, claims_past, held_once, held_open}
 use Rattle.fault_ledger.proofs.Public.{held_piece, legal_claims, report_accepted, status-open}
-use Rattle.fault_ledger.proofs.Public.{unclaimed_open}
+use Rattle.fault_ledger.specs.declared.PieceState.TheVariants as state
+use Rattle.fault_ledger.specs.declared.Finish.TheVariants as finish_is
 use Rattle.list_lemmas.proofs.Places.{within_place}
-use Rattle.workers.specs.Stops.{Stops}
-use Rattle.workers.specs.Work.{EachReport}
+use Rattle.workers.specs.{Stops.Stops, Work.EachReport}
 use Rattle.workers.proofs.Public.{all_settled, class_count, finished_settled, settled_finished}
-use Rattle.region_runs.specs.declared.stretch_run.Stop.{Stop}
-use Rattle.region_runs.specs.declared.stretch_run.Waiting.{Waiting}
-use Rattle.region_runs.specs.declared.stretch_workers.Done.{Done}
-use Rattle.region_runs.specs.declared.stretch_workers.Served.{Served}
-use Rattle.region_runs.specs.StretchRuns.{AreGivenBack, HasEnded, IsDone}
-use Rattle.region_runs.specs.StretchRuns.{IsLowest, IsOpenIn, IsStopAt, IsStoppedAmong}
-use Rattle.region_runs.specs.StretchRuns.{run_at, runs_from}
-use Rattle.region_runs.specs.Part.{stretch_at, stretch_count, stretch_size}
-use Rattle.region_runs.specs.Cut.{IsCutOf}
-use Rattle.region_runs.specs.Stretches.{AreApart, AreByStretches, AreServed, AreShared}
-use Rattle.region_runs.specs.Stretches.{EachClaim, StandsFor}
-use Rattle.region_runs.specs.Stretches.{EndsServing, HasServed, IsAmong, Stands, crew_of}
-use Rattle.region_runs.specs.Stretches.{shape_of_stretches}
+use Rattle.region_runs.specs.declared.stretch_run.{Stop.Stop, Waiting.Waiting}
+use Rattle.region_runs.specs.declared.stretch_workers.{Done.Done, Served.Served}
+use Rattle.region_runs.specs.StretchRuns.{AreGivenBack, HasEnded, IsDone, IsLowest, IsOpenIn}
+use Rattle.region_runs.specs.StretchRuns.{IsStopAt, IsStoppedAmong, run_at, runs_from}
+use Rattle.region_runs.specs.{Part.{stretch_at, stretch_count, stretch_size}, Cut.IsCutOf}
+use Rattle.region_runs.specs.Stretches.{AreApart, AreByStretches, AreServed, AreShared, EachClaim}
+use Rattle.region_runs.specs.Stretches.{StandsFor, EndsServing, HasServed, IsAmong, Stands, crew_of}
+use Rattle.region_runs.{specs.Stretches.shape_of_stretches, proofs.StretchSeats.accounts_on}
 use Rattle.region_runs.proofs.StretchTables.{AreFoundByStretch, AreWhole, IsWholeAt}
-use Rattle.region_runs.proofs.RunsOfStretches.{none_open, run_there}
-use Rattle.region_runs.proofs.StretchSeats.{accounts_on}
-use Rattle.region_runs.specs.Tasks.{AreKept, Task}
+use Rattle.region_runs.{proofs.RunsOfStretches.{none_open, run_there}, specs.Tasks.{AreKept, Task}}
 
 -- ---- the ledger is closed
 
 -- each seat that came back is one of the ledger's
 pub apart_placed : {E Z : Type 0} {K : Type 0} (p : Place) (back : List (Result (Served K) E))
-    (seats : List Sitter)
-    (dones : List (Vec (Done K) Z)) → AreApart back seats dones
+    (seats : List Sitter) (dones : List (Vec (Done K) Z)) → AreApart back seats dones
     → All (λ one. IfOk one (λ served. served.seat.place ≡ p)) back
     → All (λ (seat : Sitter). seat.place ≡ p) seats
 apart_placed {E} {Z} {K} p back seats dones apart placed k d lt =
@@ -73,8 +55,7 @@ apart_placed {E} {Z} {K} p back seats dones apart placed k d lt =
 
 -- so are the results of all workers
 pub served_placed : {E : Type 0} {K : Type 0} (task : Task K) (size : ℕ) (classes : List ℕ)
-    (p : Place)
-    (P : Type 0) (S : Stops) (back : List (Result (Served K) E))
+    (p : Place) (P : Type 0) (S : Stops) (back : List (Result (Served K) E))
     → AreServed task size classes p P S back
     → All (λ one. IfOk one (λ served. served.seat.place ≡ p)) back
 served_placed {E} {K} task size classes p P S back served k d lt =
@@ -137,8 +118,7 @@ pub face_finish : {Z : Type 0} {K : Type 0} (task : Task K) (size : ℕ) (classe
     (S : Stops) (dones : List (Vec (Done K) Z)) (face : ClosedFace) (end : Finish)
     → (all : AreShared task size classes s P S dones face)
     → ((h : History) → IsLegal face.shape h → face ≡ closed_face face.shape h
-    → end ≡ finish face.shape h)
-    → end ≡ finish s all.history
+    → end ≡ finish face.shape h) → end ≡ finish s all.history
 face_finish {Z} {K} task size classes s P S dones face end all tells =
     let same : face.shape ≡ s = ap (λ (f : ClosedFace). f.shape) all.shows in
     tells all.history (subst (λ (z : Shape). IsLegal z all.history) (sym same) all.legal)
@@ -155,8 +135,7 @@ pub shared_at : {Z : Type 0} {K : Type 0} (task : Task K) (size : ℕ) (classes 
     (crew_of workers (stretch_count size classes))) P S dones closed
 shared_at {Z} {K} task size classes s n crew workers P S dones closed e f h x =
     subst (λ m. AreShared task size classes (shape_of_stretches m (crew_of workers m)) P S dones
-    closed) f
-    (subst (λ m. AreShared task size classes (shape_of_stretches n m) P S dones closed) h
+    closed) f (subst (λ m. AreShared task size classes (shape_of_stretches n m) P S dones closed) h
     (subst (λ z. AreShared task size classes z P S dones closed) e x))
 
 -- ---- stretches that have a class
@@ -222,8 +201,7 @@ ceil_le n zero = omega (arith, div-zero n, div-add-mod n 0)
 ceil_le n (suc stretches) = omega (
   arith,
   div-add-mod n (suc stretches),
-  suc-mul stretches
-      (n / suc stretches),
+  suc-mul stretches (n / suc stretches),
 )
 
 -- there are no more stretches than classes, of which a ledger takes as many as a job has
@@ -291,8 +269,7 @@ module _ {Z : Type 0} {K : Type 0} (task : Task K) (stretches size : ℕ) (class
     (workers : ℕ)
     (P : Type 0) (S : Stops) (back : List (Vec (Done K) Z)) (table : List (Option (Done K)))
     (face : ClosedFace) (cut : IsCutOf task.job task.from stretches size classes)
-    (many : 0 < workers)
-    (given : AreGivenBack stretches back table)
+    (many : 0 < workers) (given : AreGivenBack stretches back table)
     (all : AreShared task size classes (shape_of_stretches (stretch_count size classes)
     (crew_of workers (stretch_count size classes))) P S back face) where
   abbrev pub n : ℕ
@@ -337,10 +314,7 @@ module _ {Z : Type 0} {K : Type 0} (task : Task K) (stretches size : ℕ) (class
           weaker : (own : Vec (Done K) Z) → slice_get back w ≡ Some own → (g : History)
               → EachClaim (IsAmong own.items) w g → EachClaim (Found w) w g
           weaker own at [] t = tt
-          weaker own at (Event.Claim u ∷ g) t = (
-            (λ e. (own, at, t.0 e)),
-            weaker own at g t.1,
-          )
+          weaker own at (Event.Claim u ∷ g) t = ((λ e. (own, at, t.0 e)), weaker own at g t.1)
           weaker own at (Event.Report u o ∷ g) t = weaker own at g t
           weaker own at (Event.Drop u ∷ g) t = weaker own at g t
 
@@ -377,8 +351,7 @@ module _ {Z : Type 0} {K : Type 0} (task : Task K) (stretches size : ℕ) (class
               × (k : ℕ) × (slice_get given.items k ≡ Some one)
           g = given.each done.stretch one stands
 
-          d : IsDone task size classes g.1 P S one
-              × Stands g.1 h one.stretch one.waiting
+          d : IsDone task size classes g.1 P S one × Stands g.1 h one.stretch one.waiting
           d = own_done g.1 g.2 g.4 one g.3 g.5
 
           pick : (x : Option Waiting) → one.waiting ≡ x
@@ -419,8 +392,7 @@ module _ {Z : Type 0} {K : Type 0} (task : Task K) (stretches size : ℕ) (class
 
   -- and if no worker began one, each was stopped
   all_stopped : (stretch : ℕ) → slice_get table stretch ≡ Some None → stretch < n → (w : ℕ)
-      → w < crew
-      → (P → ⊥) × IsStoppedAmong task S (runs_from task.from size classes 0 table) w
+      → w < crew → (P → ⊥) × IsStoppedAmong task S (runs_from task.from size classes 0 table) w
   all_stopped stretch none low w lt =
       let x = within_place back w (omega (arith, lt, all.count)) in
       go x.0 x.1 (all.each w x.0 x.1).1
@@ -572,8 +544,7 @@ kept_of_stretch {K} task size stretch classes kept known = record {
     length-drop (stretch * size) kept,
     known.count,
   );
-  each = λ hits k class one at v h.
-      known.each hits (stretch * size + k) class one
+  each = λ hits k class one at v h. known.each hits (stretch * size + k) class one
       (stretch_place size (stretch * size) classes k class at)
       (stretch_place size (stretch * size) kept k one v) h;
 }
@@ -599,8 +570,7 @@ reports_stand {K} s task size classes kept w (Event.Report u o ∷ h) l known = 
 
 -- the results for all stretches, if the ledger is finished
 pub by_stretches : {K Z : Type 0} (task : Task K) (size : ℕ) (classes : List ℕ) (workers : ℕ)
-    (P : Type 0) (S : Stops) (back : List (Vec (Done K) Z)) (kept : List K)
-    (closed : ClosedFace)
+    (P : Type 0) (S : Stops) (back : List (Vec (Done K) Z)) (kept : List K) (closed : ClosedFace)
     → (all : AreShared task size classes (shape_of_stretches (stretch_count size classes)
     (crew_of workers (stretch_count size classes))) P S back closed)
     → finish (shape_of_stretches (stretch_count size classes)

@@ -1,22 +1,17 @@
 -- The results of a worker that runs a list by itself, piece by piece.
-use Rattle.std.proofs.Common.{◌≡◌, ◌<◌, ◌≤◌, ◌+◌, ◌*◌, ◌⊎◌, inl, inr, ℕ, zero, suc, Bool}
-use Rattle.std.proofs.Common.{List, [], ◌∷◌, map, length, All, Option, Some, None, refl}
-use Rattle.std.proofs.Common.{sym, ap, ◌∙◌, subst, arith, true, false}
-use Rattle.std.specs.Prelude.{slice_get}
+use Rattle.std.proofs.Common.{◌≡◌, ◌<◌, ◌≤◌, ◌+◌, ◌*◌, ◌⊎◌, inl, inr, ℕ, zero, suc, Bool, List, []}
+use Rattle.std.proofs.Common.{◌∷◌, map, length, All, Option, Some, None, refl, sym, ap, ◌∙◌, subst}
+use Rattle.std.{proofs.Common.{arith, true, false}, specs.Prelude.slice_get}
 use Rattle.std.proofs.lemmas.Bool.{cases_lt, false≢true}
 use Rattle.std.proofs.lemmas.Option.{get_or_from_slice_get, slice_get_within}
 use Rattle.list_lemmas.proofs.Places.{within_place}
 use Rattle.fault_model.specs.Collapse.{representatives}
-use Rattle.patterns.specs.Least.{Table, least, from_up, first_hit}
-use Rattle.patterns.specs.Tests.{blocks}
-use Rattle.patterns.specs.declared.Outcome.{Outcome}
-use Rattle.patterns.specs.declared.Outcome.TheVariants.{Clear, Hit}
-use Rattle.block_sim.specs.Parts.{Parts, BelongTogether}
-use Rattle.block_sim.proofs.Public.{which_detect}
+use Rattle.patterns.specs.{Least.{Table, least, from_up, first_hit}, Tests.blocks}
+use Rattle.patterns.specs.declared.Outcome.{Outcome, TheVariants.{Clear, Hit}}
+use Rattle.block_sim.{specs.Parts.{Parts, BelongTogether}, proofs.Public.which_detect}
 use Rattle.region_sim.specs.Goals.{AreHits}
 use Rattle.workers.proofs.Public.{class_count}
-use Rattle.region_runs.specs.declared.stretch_run.Stop.{Stop}
-use Rattle.region_runs.specs.declared.stretch_run.Waiting.{Waiting}
+use Rattle.region_runs.specs.declared.stretch_run.{Stop.Stop, Waiting.Waiting}
 use Rattle.region_runs.specs.StretchRuns.{AreEarlier, AreKeptUpTo, IsEarlier, IsLowerOf, IsLowest}
 use Rattle.region_runs.specs.StretchRuns.{IsNoHigher, IsOpenAfter, IsOpenBelow}
 use Rattle.region_runs.specs.Tasks.{IsAtFirst, IsSound, Task}
@@ -111,12 +106,10 @@ one_count place block k n m p q = go (cases_lt n m) (cases_lt m n)
 -- what is kept of no test
 pub kept_at_first : {K : Type 0} (task : Task K) (classes : List ℕ) (kept : List K)
     → length kept ≡ length classes → ((k : ℕ) (one : K) → slice_get kept k ≡ Some one
-    → IsAtFirst task one)
-    → AreKeptUpTo task classes 0 task.from kept
+    → IsAtFirst task one) → AreKeptUpTo task classes 0 task.from kept
 kept_at_first {K} task classes kept count first = record {
   count = count;
-  each = λ hits k class n one ec ek h up.
-      subst (λ m. task.means hits (64 * task.from) (64 * m) one)
+  each = λ hits k class n one ec ek h up. subst (λ m. task.means hits (64 * task.from) (64 * m) one)
       (one_count 0 task.from k task.from n (done_high 0 task.from k (omega arith)) up)
       (first k one ek hits (64 * task.from));
 }
@@ -134,8 +127,7 @@ still_open {K} task sound classes place block k class n kept one ec ek wanted up
 pub listed_class : (job : Parts) (classes : List ℕ) (place class : ℕ)
     → All (λ n. n < length job.classes.representative) classes
     → slice_get classes place ≡ Some class → class < length job.classes.representative
-listed_class job classes place class all e =
-    subst (λ n. n < length job.classes.representative)
+listed_class job classes place class all e = subst (λ n. n < length job.classes.representative)
     (get_or_from_slice_get classes place class 0 e)
     (all place 0 (slice_get_within classes place class e))
 
@@ -199,17 +191,14 @@ pub open_same : {K : Type 0} (task : Task K) (classes : List ℕ) (stop : Stop) 
     → IsLowest (IsOpenBelow task classes stop (place + 1)) lowest
 open_same {K} task classes stop place lowest none is =
     lowest_along (IsOpenBelow task classes stop place) (IsOpenBelow task classes stop (place + 1))
-    lowest
-    (λ c b x. record {
+    lowest (λ c b x. record {
       place = x.place;
       low = omega (arith, x.low);
       at = x.at;
       block_is = x.block_is;
       within = x.within;
       still = x.still;
-    })
-    (λ c b x. go c b x (cases_lt x.place place))
-    is
+    }) (λ c b x. go c b x (cases_lt x.place place)) is
   where
     go : (c b : ℕ) (x : IsOpenBelow task classes stop (place + 1) c b)
         → (x.place < place) ⊎ (place ≤ x.place) → IsOpenBelow task classes stop place c b
@@ -251,8 +240,7 @@ open_past {K} task classes stop place block lowest is past =
 
 -- that at one place more waits
 pub open_more : {K : Type 0} (task : Task K) → IsSound task → (classes : List ℕ) (stop : Stop)
-    (place class block : ℕ) (kept : List K) (one : K) (w : Waiting)
-    (lowest lower : Option Waiting)
+    (place class block : ℕ) (kept : List K) (one : K) (w : Waiting) (lowest lower : Option Waiting)
     → AreKeptUpTo task classes stop.place stop.block kept → slice_get classes place ≡ Some class
     → slice_get kept place ≡ Some one → task.wants one ≡ true
     → AreEarlier stop.place stop.block place block → block < blocks (length task.job.tests.tests)
@@ -261,8 +249,7 @@ pub open_more : {K : Type 0} (task : Task K) → IsSound task → (classes : Lis
     → IsLowest (IsOpenBelow task classes stop (place + 1)) lower
 open_more {K} task sound classes stop place class block kept one w lowest lower found ec ek wanted
     is
-    low wc wb lo was =
-    lowest_along (λ c b. IsOpenBelow task classes stop place c b ⊎ Here c b)
+    low wc wb lo was = lowest_along (λ c b. IsOpenBelow task classes stop place c b ⊎ Here c b)
     (IsOpenBelow task classes stop (place + 1)) lower (λ c b x. to c b x)
     (λ c b x. from c b x (cases_lt x.place place))
     (lowest_join (IsOpenBelow task classes stop place) Here lowest (Some w) lower was (

@@ -1,38 +1,27 @@
 -- The steps of a worker's seat with the stretches of a ledger.
-use Rattle.std.proofs.Common.{◌≡◌, ◌<◌, ◌≤◌, ◌+◌, ◌*◌, ◌-◌, inl, inr, ℕ, true, false, cond}
-use Rattle.std.proofs.Common.{List, []}
-use Rattle.std.proofs.Common.{◌∷◌, ◌++◌, length, Option, Some, None, refl, sym, ap, ◌∙◌, subst}
-use Rattle.std.proofs.Common.{arith, append_assoc, eq-eqb}
-use Rattle.std.specs.Prelude.{is_some}
-use Rattle.std.proofs.Math.Nat.{mul-zero}
-use Rattle.std.proofs.lemmas.List.Elements.{All-push, All-weaker}
+use Rattle.std.proofs.Common.{◌≡◌, ◌<◌, ◌≤◌, ◌+◌, ◌*◌, ◌-◌, inl, inr, ℕ, true, false, cond, List}
+use Rattle.std.proofs.Common.{[], ◌∷◌, ◌++◌, length, Option, Some, None, refl, sym, ap, ◌∙◌, subst}
+use Rattle.std.{proofs.Common.{arith, append_assoc, eq-eqb}, specs.Prelude.is_some}
+use Rattle.std.proofs.{Math.Nat.mul-zero, lemmas.List.Elements.{All-push, All-weaker}}
 use Rattle.patterns.specs.Tests.{blocks}
 use Rattle.patterns.specs.declared.Outcome.TheVariants as outcome
-use Rattle.fault_ledger.specs.declared.Event.{Event}
+use Rattle.fault_ledger.specs.declared.{Event.Event, Reply.TheVariants.Claimed}
+use Rattle.fault_ledger.specs.History.{History, ContinuesWithout, NoneOf, block_count, piece_at}
+use Rattle.fault_ledger.specs.{History.{piece_count, claims, entry, held_by}, Answer.IsLegal}
+use Rattle.fault_ledger.{specs.Seats.{Makes, Place, Sitter}, proofs.Public.legal_claims}
+use Rattle.fault_ledger.proofs.Public.{claims_past, entry_past, held-holds, held_goes_on}
 use Rattle.fault_ledger.specs.declared.Claim.TheVariants as claim_is
 use Rattle.fault_ledger.specs.declared.PieceState.TheVariants as state
-use Rattle.fault_ledger.specs.declared.Reply.TheVariants.{Claimed}
-use Rattle.fault_ledger.specs.History.{History, ContinuesWithout, NoneOf, block_count, piece_at}
-use Rattle.fault_ledger.specs.History.{piece_count, claims, entry, held_by}
-use Rattle.fault_ledger.specs.Answer.{IsLegal}
-use Rattle.fault_ledger.specs.Seats.{Makes, Place, Sitter}
-use Rattle.fault_ledger.proofs.Public.{claims_past, entry_past, held-holds}
-use Rattle.fault_ledger.proofs.Public.{held_goes_on, legal_claims}
-use Rattle.workers.specs.Stops.{Stops}
-use Rattle.workers.proofs.Public.{given}
-use Rattle.region_runs.specs.declared.stretch_run.Waiting.{Waiting}
-use Rattle.region_runs.specs.declared.stretch_workers.Done.{Done}
-use Rattle.region_runs.specs.StretchRuns.{IsDone}
-use Rattle.region_runs.specs.Stretches.{Accounts, AfterRun, ClaimsStretch, EachClaim}
-use Rattle.region_runs.specs.Stretches.{HasServed, IsAmong, SeesAllClaimed, Stands}
-use Rattle.region_runs.proofs.PushedLists.{kept, last_of}
-use Rattle.region_runs.specs.Tasks.{Task}
+use Rattle.workers.{specs.Stops.Stops, proofs.Public.given}
+use Rattle.region_runs.specs.declared.{stretch_run.Waiting.Waiting, stretch_workers.Done.Done}
+use Rattle.region_runs.specs.{StretchRuns.IsDone, Stretches.{IsAmong, SeesAllClaimed, Stands}}
+use Rattle.region_runs.specs.Stretches.{Accounts, AfterRun, ClaimsStretch, EachClaim, HasServed}
+use Rattle.region_runs.{proofs.PushedLists.{kept, last_of}, specs.Tasks.Task}
 
 -- ---- calls
 
 -- a claim of a piece is one of a stretch
-pub claims_stretch : (a b : Sitter) (p : Place) (class block : ℕ) → a.place ≡ p
-    → p.shape.tests ≡ 64
+pub claims_stretch : (a b : Sitter) (p : Place) (class block : ℕ) → a.place ≡ p → p.shape.tests ≡ 64
     → Makes a (Event.Claim a.worker) (Claimed (claim_is.Piece class block)) b
     → ClaimsStretch a class b
 claims_stretch a b p class block at tests m =
@@ -63,8 +52,7 @@ claims_stretch a b p class block at tests m =
 -- the stretch that was claimed is held
 pub claim_holds : (a b : Sitter) (stretch : ℕ) → ClaimsStretch a stretch b
     → held_by b.worker b.seen ≡ Some stretch
-claim_holds a b stretch c =
-    subst (λ w. held_by w b.seen ≡ Some stretch) (sym c.worker)
+claim_holds a b stretch c = subst (λ w. held_by w b.seen ≡ Some stretch) (sym c.worker)
     (ap (held_by a.worker) c.seen
     ∙ ap (λ t. cond t (Some (claims c.before)) (held_by a.worker c.before))
     (eq-eqb a.worker a.worker refl) ∙ ap Some (sym c.number))
@@ -140,8 +128,7 @@ ran b d stretch None l held m =
       newer = Event.Report b.worker outcome.Clear ∷ m.newer.0;
       seen = seen ∙ ap (λ h. Event.Report b.worker outcome.Clear ∷ h) m.newer.1;
       legal = subst (IsLegal b.place.shape) (sym seen) m.legal;
-      stands = ap (entry stretch) seen
-          ∙ ap (λ t. cond t state.Clear (entry stretch m.before))
+      stands = ap (entry stretch) seen ∙ ap (λ t. cond t state.Clear (entry stretch m.before))
           (held-holds b.worker stretch m.before still);
       free = λ e. ap (λ (y : Sitter). held_by y.worker y.seen) m.seat
           ∙ ap (λ t. cond t None (held_by b.worker m.before)) (eq-eqb b.worker b.worker refl);
@@ -158,11 +145,9 @@ ran b d stretch (Some v) l held same = record {
 
 ran_claims : (H : ℕ → Type 0) (b d : Sitter) (x : Option Waiting) → AfterRun b x d
     → EachClaim H b.worker b.seen → EachClaim H b.worker d.seen
-ran_claims H b d None m t =
-    subst (EachClaim H b.worker) (sym (ap (λ (y : Sitter). y.seen) m.seat))
+ran_claims H b d None m t = subst (EachClaim H b.worker) (sym (ap (λ (y : Sitter). y.seen) m.seat))
     (claims_go_on H b.worker m.before b.seen m.newer t)
-ran_claims H b d (Some v) same t =
-    subst (λ (y : Sitter). EachClaim H b.worker y.seen) (sym same) t
+ran_claims H b d (Some v) same t = subst (λ (y : Sitter). EachClaim H b.worker y.seen) (sym same) t
 
 -- a stretch that is among some is among more
 among_more : {K : Type 0} (dones : List (Done K)) (done : Done K) (p : ℕ) → IsAmong dones p
@@ -170,8 +155,7 @@ among_more : {K : Type 0} (dones : List (Done K)) (done : Done K) (p : ℕ) → 
 among_more {K} dones done p x = (x.0, x.1, kept dones (done ∷ []) x.0 x.1 x.2, x.3)
 
 module _ {K : Type 0} (task : Task K) (size : ℕ) (classes : List ℕ) (place : Place) (w : ℕ)
-    (P : Type 0)
-    (S : Stops) where
+    (P : Type 0) (S : Stops) where
   -- a seat between two claims
   pub record Serving (seat : Sitter) (dones : List (Done K)) : Type 0 where
     pub place_is : seat.place ≡ place
@@ -212,12 +196,7 @@ module _ {K : Type 0} (task : Task K) (size : ℕ) (classes : List ℕ) (place :
       (λ p x. among_more dones done p x) was.accounts.claimed in
       let before : EachClaim more w c.before = claims_go_on more w c.before a.seen
       (subst (λ v. ContinuesWithout v c.before a.seen) was.worker_is c.newer) old in
-      let here : more (claims c.before) = (
-        length dones,
-        done,
-        last_of dones done,
-        is ∙ c.number,
-      ) in
+      let here : more (claims c.before) = (length dones, done, last_of dones done, is ∙ c.number) in
       let now : EachClaim more w b.seen = subst (EachClaim more w) (sym c.seen) (
         (λ e. here),
         before,
@@ -235,8 +214,7 @@ module _ {K : Type 0} (task : Task K) (size : ℕ) (classes : List ℕ) (place :
               (stands_past w x.stretch x.waiting tail a.seen af s)) dones was.accounts.stand)
               (subst (λ v. Stands v d.seen done.stretch done.waiting) bw
               (subst (λ n. Stands b.worker d.seen n done.waiting) (sym is) r.stands));
-          claimed = subst (λ v. EachClaim more v d.seen) bw
-              (ran_claims more b d done.waiting after
+          claimed = subst (λ v. EachClaim more v d.seen) bw (ran_claims more b d done.waiting after
               (subst (λ v. EachClaim more v b.seen) (sym bw) now));
         };
       }

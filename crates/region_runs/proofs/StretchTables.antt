@@ -2,10 +2,8 @@
 use Rattle.std.specs.Prelude.{◌≡◌, ◌<◌, ℕ, List, length, slice_get, Option, Some, None}
 use Rattle.patterns.specs.Tests.{blocks}
 use Rattle.workers.specs.Stops.{Stops}
-use Rattle.region_runs.specs.declared.stretch_run.Waiting.{Waiting}
-use Rattle.region_runs.specs.declared.stretch_workers.Done.{Done}
-use Rattle.region_runs.specs.Part.{stretch_at}
-use Rattle.region_runs.specs.StretchRuns.{AreAllStopped, IsDone, runs_from}
+use Rattle.region_runs.specs.declared.{stretch_run.Waiting.Waiting, stretch_workers.Done.Done}
+use Rattle.region_runs.specs.{Part.stretch_at, StretchRuns.{AreAllStopped, IsDone, runs_from}}
 use Rattle.region_runs.specs.Tasks.{Task}
 
 -- A place of a table of stretches has a worker's result for the stretch of this number, and if it

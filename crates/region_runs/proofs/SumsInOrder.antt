@@ -1,13 +1,10 @@
 -- A sum over a list is the sum over the same elements in another order.
-use Rattle.std.proofs.Common.{◌≡◌, ◌≢◌, ◌<◌, ◌≤◌, ◌⊎◌, inl, inr, ℕ, zero, suc, List}
-use Rattle.std.proofs.Common.{set, take, length, get_or, sym, ap}
-use Rattle.std.proofs.Common.{◌∙◌, ◌*◌, arith, replicate, add-one}
-use Rattle.std.specs.List.{sum_by}
-use Rattle.std.proofs.lemmas.Bool.{cases_eq, cases_lt}
-use Rattle.std.proofs.lemmas.List.{get_or-set_same, get_or-set_other, length-set}
-use Rattle.std.proofs.lemmas.List.{ext_get_or, get_or-replicate, length-replicate, take_all}
-use Rattle.std.proofs.lemmas.List.Folds.{sum_by-replicate}
-use Rattle.std.proofs.Math.Nat.{mul-zero}
+use Rattle.std.proofs.Common.{◌≡◌, ◌≢◌, ◌<◌, ◌≤◌, ◌⊎◌, inl, inr, ℕ, zero, suc, List, set, take}
+use Rattle.std.proofs.Common.{length, get_or, sym, ap, ◌∙◌, ◌*◌, arith, replicate, add-one}
+use Rattle.std.{specs.List.sum_by, proofs.lemmas.Bool.{cases_eq, cases_lt}}
+use Rattle.std.proofs.lemmas.List.{get_or-set_same, get_or-set_other, length-set, ext_get_or}
+use Rattle.std.proofs.lemmas.List.{get_or-replicate, length-replicate, take_all}
+use Rattle.std.proofs.{lemmas.List.Folds.sum_by-replicate, Math.Nat.mul-zero}
 use Rattle.std.proofs.lemmas.List.Sums.{sum_by-set, sum_by_more}
 
 module _ {X : Type 0} (f : X → ℕ) (none : X) (empty : f none ≡ 0) where
@@ -62,13 +59,11 @@ module _ {X : Type 0} (f : X → ℕ) (none : X) (empty : f none ≡ 0) where
           where
             put : (i : ℕ) → i < length ys → from i < suc k → (i ≡ at k) ⊎ (i ≡ at k → ⊥)
                 → get_or (set zs (at k) (get_or xs k none)) i none ≡ get_or ys i none
-            put i lt less (inl e) =
-                ap (λ j. get_or (set zs (at k) (get_or xs k none)) j none) e
+            put i lt less (inl e) = ap (λ j. get_or (set zs (at k) (get_or xs k none)) j none) e
                 ∙ get_or-set_same zs (at k) (get_or xs k none) none
                 (omega (arith, at_low k low, was.count))
                 ∙ ap (λ j. get_or xs j none) (sym (ap from e ∙ back k low)) ∙ sym (same i lt)
-            put i lt less (inr other) =
-                get_or-set_other zs (at k) i (get_or xs k none) none other
+            put i lt less (inr other) = get_or-set_other zs (at k) i (get_or xs k none) none other
                 ∙ was.put i lt (earlier (cases_lt (from i) k))
               where
                 earlier : (from i < k) ⊎ (k ≤ from i) → from i < k
@@ -86,5 +81,4 @@ module _ {X : Type 0} (f : X → ℕ) (none : X) (empty : f none ≡ 0) where
           lt,
           all.1.count,
         ))).0) in
-        ap (sum_by f) (sym is) ∙ all.1.total
-        ∙ ap (sum_by f) (take_all (length xs) xs (omega arith))
+        ap (sum_by f) (sym is) ∙ all.1.total ∙ ap (sum_by f) (take_all (length xs) xs (omega arith))

@@ -1,8 +1,7 @@
 -- The windows of a run, one after another.
 use Rattle.std.proofs.Common.{◌≡◌, ◌<◌, ◌≤◌, ◌+◌, ◌*◌, ◌∙◌, ℕ, List, ap, arith, min, sym}
-use Rattle.std.proofs.lemmas.Grind.{div_ceil_times}
+use Rattle.std.{proofs.lemmas.Grind.div_ceil_times, specs.Int.div_ceil}
 use Rattle.std.proofs.Math.Nat.{min-eq_left, min-eq_right, mul-le-mul_right}
-use Rattle.std.specs.Int.{div_ceil}
 use Rattle.patterns.specs.Tests.{TestList}
 use Rattle.block_sim.specs.Parts.{Parts, with_tests}
 use Rattle.region_sim.specs.ClassOrder.{AreAllByRegion}

@@ -1,16 +1,11 @@
 -- The tests of a window, and which of them detect a fault.
-use Rattle.std.proofs.Common.{◌≡◌, ◌⊎◌, ◌<◌, ◌+◌, ◌*◌, ◌-◌, ◌∙◌, inl, inr, ℕ, zero, suc, List}
-use Rattle.std.proofs.Common.{Some, refl, sym, subst, arith, length, true, false}
-use Rattle.std.proofs.lemmas.Bool.{false≢true}
-use Rattle.std.proofs.lemmas.Option.{slice_get_within}
-use Rattle.std.specs.Prelude.{Bool}
+use Rattle.std.proofs.Common.{◌≡◌, ◌⊎◌, ◌<◌, ◌+◌, ◌*◌, ◌-◌, ◌∙◌, inl, inr, ℕ, zero, suc, List, Some}
+use Rattle.std.{proofs.Common.{refl, sym, subst, arith, length, true, false}, specs.Prelude.Bool}
+use Rattle.std.proofs.lemmas.{Bool.false≢true, Option.slice_get_within}
 use Rattle.bench_net.specs.Statement.{Statement}
-use Rattle.fault_model.specs.declared.Line.{Line}
-use Rattle.fault_model.specs.declared.Model.{Model}
+use Rattle.fault_model.specs.{declared.Line.Line, declared.Model.Model, Fault.Fault, Solution.Test}
 use Rattle.fault_model.specs.declared.Model.TheVariants.{StuckAt, Transition, TransitionPairs}
 use Rattle.fault_model.specs.Detection.{DetectsAt, IsInitialized, LooksBack}
-use Rattle.fault_model.specs.Fault.{Fault}
-use Rattle.fault_model.specs.Solution.{Test}
 use Rattle.patterns.specs.Tests.{TestList}
 use Rattle.block_sim.specs.Parts.{Parts, with_tests}
 use Rattle.region_sim.specs.Goals.{AreHits}
@@ -23,8 +18,7 @@ initialized_up : (c : List Statement) (tests window : List Test) (from end : ℕ
 initialized_up c tests window from end l b zero of lt i = absurd i
 initialized_up c tests window from end l b (suc k) of lt i =
     let next : suc (from + k) ≡ from + suc k = omega arith in
-    subst (IsInitialized c tests l b) next
-    (i.0, sym (of.each k (omega (arith, lt))) ∙ i.1, i.2)
+    subst (IsInitialized c tests l b) next (i.0, sym (of.each k (omega (arith, lt))) ∙ i.1, i.2)
 
 -- and the other way round, unless the test before isn't in the window
 initialized_down : (c : List Statement) (tests window : List Test) (from end : ℕ) (l : Line)

@@ -1,21 +1,17 @@
 -- What is kept of the classes of a list after a window.
 use Rattle.std.proofs.Common.{◌≡◌, ◌⊎◌, ◌<◌, ◌≤◌, ◌*◌, ◌+◌, ◌-◌, ◌∙◌, All, inl, inr, ℕ, suc, List}
-use Rattle.std.proofs.Common.{[]}
-use Rattle.std.proofs.Common.{Bool, Some, None, arith, length, refl, sym, subst, ap, true, false}
-use Rattle.std.proofs.lemmas.Option.{get_or_from_slice_get, slice_get_within}
+use Rattle.std.proofs.Common.{[], Bool, Some, None, arith, length, refl, sym, subst, ap, true}
+use Rattle.std.proofs.{Common.false, lemmas.Option.{get_or_from_slice_get, slice_get_within}}
 use Rattle.std.specs.Prelude.{count_by, slice_get, take}
 use Rattle.list_lemmas.proofs.Places.{within_place}
 use Rattle.patterns.specs.Tests.{IsTestList, TestList, blocks}
 use Rattle.block_sim.specs.Parts.{BelongTogether, with_tests}
 use Rattle.region_sim.specs.Goals.{AreHits}
-use Rattle.region_runs.specs.declared.windows.Window.{Window}
-use Rattle.region_runs.specs.Joins.{AreJoined, IsJoinedAt}
-use Rattle.region_runs.specs.Tasks.{AreKept, IsAtFirst, IsSound, Task}
+use Rattle.region_runs.specs.{declared.windows.Window.Window, Joins.{AreJoined, IsJoinedAt}}
+use Rattle.region_runs.{specs.Tasks.{AreKept, IsAtFirst, IsSound, Task}, proofs.Joins.open_there}
 use Rattle.region_runs.specs.WindowLedgers.{open_classes, window_task}
 use Rattle.region_runs.specs.Windows.{AreKeptBelow, GoesOnFrom, IsWindowOf}
-use Rattle.region_runs.proofs.Joins.{open_there}
-use Rattle.region_runs.proofs.StretchRuns.{listed_class, some_hits}
-use Rattle.region_runs.proofs.WindowTests.{same_hits}
+use Rattle.region_runs.proofs.{StretchRuns.{listed_class, some_hits}, WindowTests.same_hits}
 
 -- a window has as many blocks as there are from its first up to its end
 pub window_blocks_are : (tests window : TestList) (first : ℕ) (w : Window)
@@ -37,11 +33,7 @@ window_from first w count on = go on.before
     go : ((w.from ≡ 0) × (first ≡ 0)) ⊎ (suc w.from ≡ first)
         → ((w.first - w.from ≡ 0) × (w.from ≡ 0) × (w.first ≡ 0))
         ⊎ ((w.first - w.from ≡ 1) × (w.first ≡ w.from + 1))
-    go (inl x) = inl (
-      omega (arith, x.0, x.1, on.first_is),
-      x.0,
-      omega (arith, x.1, on.first_is),
-    )
+    go (inl x) = inl (omega (arith, x.0, x.1, on.first_is), x.0, omega (arith, x.1, on.first_is))
     go (inr x) = inr (omega (arith, x, on.first_is), omega (arith, x, on.first_is))
 
 module _ {K : Type 0} (task : Task K) (sound : IsSound task) (tests some : TestList) (w : Window)
@@ -64,14 +56,12 @@ module _ {K : Type 0} (task : Task K) (sound : IsSound task) (tests some : TestL
       (omega (arith, high, count)) all stretch
     where
       go : ((w.first - w.from ≡ 0) × (w.from ≡ 0) × (w.first ≡ 0))
-          ⊎ ((w.first - w.from ≡ 1) × (w.first ≡ w.from + 1))
-          → (64 * w.from ≡ 0) ⊎ (0 < t)
+          ⊎ ((w.first - w.from ≡ 1) × (w.first ≡ w.from + 1)) → (64 * w.from ≡ 0) ⊎ (0 < t)
       go (inl x) = inl (omega (arith, x.1))
       go (inr x) = inr (omega (arith, x.0, low))
 
   -- after the window the same is kept of the tests below its end
-  pub values_after : (before found after : List K)
-      → AreKeptBelow task (64 * w.first) classes before
+  pub values_after : (before found after : List K) → AreKeptBelow task (64 * w.first) classes before
       → AreKept (window_task task some w) (open_classes task.wants classes before) found
       → AreJoined task.wants task.means (64 * w.from) before found after
       → AreKeptBelow task (64 * w.end) classes after

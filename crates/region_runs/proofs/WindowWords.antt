@@ -1,14 +1,10 @@
 -- The tests of a window are made of the words of its blocks.
 use Rattle.std.proofs.Common.{◌≡◌, ◌⊎◌, ◌<◌, ◌≤◌, ◌+◌, ◌*◌, ◌-◌, ◌/◌, ◌%◌, ◌++◌, ◌∙◌, inl, inr, ℕ}
-use Rattle.std.proofs.Common.{List, [], ◌∷◌, Some, refl, sym, ap, subst, arith}
-use Rattle.std.proofs.Common.{length, get_or, true}
-use Rattle.std.proofs.Common.{false, length-append, min, suc}
-use Rattle.std.proofs.lemmas.Bool.{cases_lt}
-use Rattle.std.proofs.lemmas.List.{same_lists}
-use Rattle.std.proofs.lemmas.Option.{slice_get-get_or, slice_get_within}
-use Rattle.std.proofs.Math.ListN.{get_or-append}
+use Rattle.std.proofs.Common.{List, [], ◌∷◌, Some, refl, sym, ap, subst, arith, length, get_or}
+use Rattle.std.proofs.{Common.{true, false, length-append, min, suc}, lemmas.Bool.cases_lt}
+use Rattle.std.proofs.lemmas.{List.same_lists, Option.{slice_get-get_or, slice_get_within}}
+use Rattle.std.proofs.Math.{ListN.get_or-append, Seq.get_or-append_seam}
 use Rattle.std.proofs.Math.Nat.{div-add-mod, min-eq_left, min-eq_right, mod-lt, mul-le-mul_left}
-use Rattle.std.proofs.Math.Seq.{get_or-append_seam}
 use Rattle.std.specs.Prelude.{Bool, slice_get}
 use Rattle.fault_model.specs.Solution.{Test}
 use Rattle.patterns.specs.Making.{IsMadeOf, word_of}
@@ -42,8 +38,7 @@ adds_one tests block old now more source word was is e =
   where
     go : (s : ℕ) → s < source + 1 → (s < source) ⊎ (source ≤ s)
         → IsWord tests.tests block s (get_or (now ++ word ∷ []) (length old + s) 0)
-    go s lt (inl x) =
-        subst (IsWord tests.tests block s)
+    go s lt (inl x) = subst (IsWord tests.tests block s)
         (sym (get_or-append now (word ∷ []) 0 (length old + s) (omega (arith, was.long, x))))
         (was.new s x)
     go s lt (inr x) =
@@ -137,8 +132,7 @@ window_of tests some from end count words list own are made short low full = rec
         same_lists (get_or some.tests k []) (get_or tests.tests (64 * from + k) [])
         (mine ∙ made.same_width ∙ sym theirs)
         (λ s d low. let wide : s < tests.width = omega (arith, low, mine, made.same_width) in
-        read (get_or some.tests k []) s d (omega (arith, low))
-        ∙ same_bit k s lt wide
+        read (get_or some.tests k []) s d (omega (arith, low)) ∙ same_bit k s lt wide
         ∙ sym (read (get_or tests.tests (64 * from + k) []) s d (omega (arith, wide, theirs)))) in
         slice_get-get_or some.tests k [] here ∙ ap Some equal
         ∙ sym (slice_get-get_or tests.tests (64 * from + k) [] there)

@@ -211,8 +211,8 @@ pub(crate) fn forget_tests(alloc: Global, job: &mut Job) -> Result<(), AllocErro
     Ok(())
 }
 
-/// Gives a job the tests of a window. It forgets those of the window before first, and the fault-free
-/// words of the window take the memory of those before.
+/// Gives a job the tests of a window. It forgets those of the window before first, and the
+/// fault-free words of the window take the memory of those before.
 pub(crate) fn take_window<R: Threads + Wait>(
     rt: &R,
     alloc: Global,

@@ -1,16 +1,10 @@
 -- The end of following a fault, in words in another order, is true of the original circuit.
 use Rattle.std.proofs.Common.{ℕ, List}
-use Rattle.bench_net.specs.Statement.{Statement}
-use Rattle.bench_net.specs.Circuit.{IsWellFormed}
-use Rattle.fault_model.specs.Fault.{Fault}
-use Rattle.fault_model.specs.Solution.{Test}
-use Rattle.fault_model.specs.Reordered.{moved_fault}
+use Rattle.bench_net.specs.{Statement.Statement, Circuit.IsWellFormed}
+use Rattle.fault_model.specs.{Fault.Fault, Solution.Test, Reordered.moved_fault}
 use Rattle.fault_model.proofs.Public.{detected_same}
-use Rattle.region_sim.specs.declared.region.Reach.TheVariants.{Observed}
-use Rattle.flat_circuit.specs.Arranged.{IsArranged}
-use Rattle.region_sim.specs.Reached.{IsReached}
-use Rattle.flat_circuit.specs.Words.{test_of}
-use Rattle.flat_circuit.proofs.Public.{reordered}
+use Rattle.region_sim.specs.{declared.region.Reach.TheVariants.Observed, Reached.IsReached}
+use Rattle.flat_circuit.{specs.Arranged.IsArranged, specs.Words.test_of, proofs.Public.reordered}
 
 module _ (c d : List Statement) (well : IsWellFormed c) (arranged : IsArranged c d) where
   -- the same tests of a group detect a fault

@@ -1,25 +1,18 @@
 -- Classes that are followed to one stem.
-use Rattle.std.proofs.Common.{◌<◌, ◌≤◌, ℕ, sym, ◌∙◌, ap, subst, List, [], ◌∷◌}
-use Rattle.std.proofs.Common.{◌++◌, length}
-use Rattle.std.proofs.Common.{inl, inr, ◌⊎◌, arith}
-use Rattle.list_lemmas.proofs.Members.{Among, among, among_append}
-use Rattle.list_lemmas.proofs.Members.{contained}
-use Rattle.bench_net.specs.Scan.{names}
-use Rattle.bench_net.specs.Circuit.{IsWellFormed}
-use Rattle.flat_circuit.specs.declared.block_span.BlockSpan.{BlockSpan}
-use Rattle.block_sim.specs.declared.propagation.Followed.{Followed}
-use Rattle.block_sim.specs.declared.propagation_state.PropagationState.{PropagationState}
-use Rattle.block_sim.specs.PropagationState.{HasRoomFor, IsAtRest}
-use Rattle.block_sim.specs.Parts.{Parts}
-use Rattle.region_sim.specs.Arrivals.{AreFollowed, HasArrived}
-use Rattle.flat_circuit.specs.BlockSpans.{AreInSpan}
+use Rattle.std.proofs.Common.{◌<◌, ◌≤◌, ℕ, sym, ◌∙◌, ap, subst, List, [], ◌∷◌, ◌++◌, length, inl}
+use Rattle.std.proofs.Common.{inr, ◌⊎◌, arith}
+use Rattle.list_lemmas.proofs.Members.{Among, among, among_append, contained}
+use Rattle.bench_net.specs.{Scan.names, Circuit.IsWellFormed}
+use Rattle.flat_circuit.specs.{declared.block_span.BlockSpan.BlockSpan, BlockSpans.AreInSpan}
 use Rattle.flat_circuit.specs.Words.{lane}
-use Rattle.block_sim.proofs.Public.{lanes_first}
+use Rattle.block_sim.specs.{declared.propagation.Followed.Followed, Parts.Parts}
+use Rattle.block_sim.specs.declared.propagation_state.PropagationState.{PropagationState}
+use Rattle.block_sim.{specs.PropagationState.{HasRoomFor, IsAtRest}, proofs.Public.lanes_first}
+use Rattle.region_sim.specs.Arrivals.{AreFollowed, HasArrived}
 
 -- a class reached a stem only in lanes of tests
 pub arrived_within : (job : Parts) (span : BlockSpan) (stem class word : ℕ)
-    → HasArrived job span stem class word
-    → AreInSpan job.tests.tests span word
+    → HasArrived job span stem class word → AreInSpan job.tests.tests span word
 arrived_within job span stem class word a k lt own =
     ((a.4 k lt).0 (lanes_first a.1 a.2 k (ap (λ w. lane w k) (sym a.6) ∙ own))).0
 
@@ -35,10 +28,8 @@ followed_more job span stem followed one before within at x there =
     go : Among x followed ⊎ Among x (one ∷ [])
         → (x.class < length job.classes.representative) × HasArrived job span stem x.class x.lanes
     go (inl h) = before x (contained followed x h)
-    go (inr (inl same)) =
-        subst (λ (y : Followed). (y.class < length job.classes.representative)
-        × HasArrived job span stem y.class y.lanes)
-        same (within, at)
+    go (inr (inl same)) = subst (λ (y : Followed). (y.class < length job.classes.representative)
+        × HasArrived job span stem y.class y.lanes) same (within, at)
     go (inr (inr bad)) = absurd bad
 
 -- a state at rest has room for a circuit that it has words for

@@ -1,32 +1,24 @@
 -- The classes in the order of their visits.
-use Rattle.std.proofs.Common.{◌≡◌, ◌<◌, ◌≤◌, ◌+◌, ◌⊎◌, inl, inr, ℕ}
-use Rattle.std.proofs.Common.{List, [], ◌∷◌, ◌++◌, length, get_or, Some, sym, ap}
-use Rattle.std.proofs.Common.{All, ◌∙◌, subst, arith, length-append}
-use Rattle.std.specs.Prelude.{slice_get}
-use Rattle.std.proofs.Math.Seq.{get_or-append_seam}
-use Rattle.std.proofs.lemmas.Bool.{cases_lt}
-use Rattle.std.proofs.lemmas.List.{get_or_append_left}
+use Rattle.std.proofs.Common.{◌≡◌, ◌<◌, ◌≤◌, ◌+◌, ◌⊎◌, inl, inr, ℕ, List, [], ◌∷◌, ◌++◌, length}
+use Rattle.std.proofs.Common.{get_or, Some, sym, ap, All, ◌∙◌, subst, arith, length-append}
+use Rattle.std.{specs.Prelude.slice_get, proofs.Math.Seq.get_or-append_seam}
+use Rattle.std.proofs.lemmas.{Bool.cases_lt, List.get_or_append_left}
 use Rattle.std.proofs.lemmas.Option.{get_or_from_slice_get, slice_get-get_or, slice_get_within}
 use Rattle.list_lemmas.proofs.Places.{place_within, within_place}
-use Rattle.bench_net.specs.Circuit.{IsWellFormed}
-use Rattle.bench_net.specs.Scan.{names}
-use Rattle.bench_net.specs.Statement.{Statement}
+use Rattle.bench_net.specs.{Circuit.IsWellFormed, Scan.names, Statement.Statement}
 use Rattle.fault_model.specs.Reordered.{HasSameSignals, IsReordered, place}
 use Rattle.fault_model.proofs.Public.{in_signal_order, same_signals}
-use Rattle.flat_circuit.specs.Arranged.{ArePlaces, IsArranged}
-use Rattle.block_sim.specs.Parts.{Parts}
-use Rattle.flat_circuit.specs.Regions.{IsStemOfClass}
+use Rattle.flat_circuit.specs.{Arranged.{ArePlaces, IsArranged}, Regions.IsStemOfClass}
 use Rattle.flat_circuit.proofs.Public.{one_class_stem}
-use Rattle.region_sim.specs.ClassOrder.{AreVisits, AreVisitsTo}
-use Rattle.region_sim.specs.ClassOrder.{AreAllByRegion}
+use Rattle.block_sim.specs.Parts.{Parts}
+use Rattle.region_sim.specs.ClassOrder.{AreVisits, AreVisitsTo, AreAllByRegion}
 use Rattle.counting_sort.specs.SortedPlaces.{AreSortedPlaces, GoesFirst}
 
 -- the places of signals are numbers of signals, each of one signal
 module _ (c d : List Statement) (places : List ℕ) (well : IsWellFormed c) (is : IsArranged c d)
     (are : ArePlaces c d places) where
   reordered : IsReordered c d
-  reordered = subst (IsReordered c) (sym is.2)
-      (in_signal_order c is.0 is.1.signals well).reordered
+  reordered = subst (IsReordered c) (sym is.2) (in_signal_order c is.0 is.1.signals well).reordered
 
   signals : HasSameSignals c d
   signals = same_signals c d well reordered
@@ -97,8 +89,7 @@ all_in_order job visits classes known sorted = record {
         omega (arith, lt, same, known.are.count)
 
     before : (first second r q : ℕ) → r < length (names job.circuit)
-        → q < length (names job.circuit)
-        → get_or visits first 0 ≡ get_or known.places r 0
+        → q < length (names job.circuit) → get_or visits first 0 ≡ get_or known.places r 0
         → get_or visits second 0 ≡ get_or known.places q 0 → GoesFirst visits first second
         → (get_or known.places r 0 < get_or known.places q 0)
         ⊎ ((get_or known.places r 0 ≡ get_or known.places q 0)

@@ -1,34 +1,27 @@
 -- The lanes in which a fault starts, and the lanes in which it is detected.
 use Rattle.std.proofs.Common.{◌≡◌, ◌<◌, ℕ, refl, sym, ◌∙◌, ap, subst, Bool, true, false, not, List}
-use Rattle.std.proofs.Common.{map, inl}
+use Rattle.std.{proofs.Common.{map, inl}, specs.Prelude.unwrap_or, specs.Bool.Decides}
 use Rattle.std.specs.Prelude.{◌≢◌, All, Contains, Option, Some, None, slice_index_or, bit_xor}
-use Rattle.std.specs.Prelude.{unwrap_or}
-use Rattle.std.specs.Bool.{Decides}
 use Rattle.std.proofs.lemmas.Bool.{false≢true}
-use Rattle.bench_net.specs.declared.Kind.{Kind}
-use Rattle.bench_net.specs.Statement.{Name, Statement, Gate}
-use Rattle.bench_net.specs.Scan.{names, signal, name_of, gate_of}
-use Rattle.bench_net.specs.Circuit.{IsWellFormed}
-use Rattle.list_lemmas.proofs.Members.{Among, contained}
-use Rattle.list_lemmas.proofs.Places.{at_place}
+use Rattle.bench_net.specs.{declared.Kind.Kind, Statement.{Name, Statement, Gate}}
+use Rattle.bench_net.specs.{Scan.{names, signal, name_of, gate_of}, Circuit.IsWellFormed}
 use Rattle.bench_net.proofs.Public.{name_of-signal, signal-name_of}
+use Rattle.list_lemmas.proofs.{Members.{Among, contained}, Places.at_place}
 use Rattle.fault_model.specs.declared.Line.TheVariants as line
-use Rattle.fault_model.specs.declared.Model.{Model}
-use Rattle.fault_model.specs.Fault.{Fault, faults}
+use Rattle.fault_model.specs.{declared.Model.Model, Fault.{Fault, faults}}
 use Rattle.fault_model.specs.Solution.{Test, Solves, Detects, value, pins_see}
 use Rattle.fault_model.specs.Detection.{HasBit, name_on}
 use Rattle.fault_model.proofs.Public.{agree, carries as carries_named, detection_is_of_any_solution}
 use Rattle.fault_model.proofs.Public.{has_solutions, pins_agree, under_other}
 use Rattle.event_queue.proofs.Public.{index_zero}
-use Rattle.block_sim.specs.Flips.{Alters, DetectsFlip, HasCome, start_of}
-use Rattle.block_sim.specs.Propagation.{AreShown}
-use Rattle.flat_circuit.specs.Words.{lane, lane_bits, pin_bits, test_of, AreWords}
-use Rattle.flat_circuit.proofs.Public.{pins_named, lane_xor, lane_zero, unlike}
+use Rattle.block_sim.specs.{Flips.{Alters, DetectsFlip, HasCome, start_of}, Propagation.AreShown}
 use Rattle.block_sim.proofs.Public.{Enters, arg_named, stem_stuck, stem_there, turned_of}
 use Rattle.block_sim.proofs.Public.{gate_named_of_entered_gates as gate_named, outside}
 use Rattle.block_sim.proofs.Public.{gate_named_of_signal_equations as equated_gate_named, altered}
 use Rattle.block_sim.proofs.Public.{entered_back, entered_there, not_itself, pin_enters, stem_back}
 use Rattle.block_sim.proofs.Public.{observer_law}
+use Rattle.flat_circuit.specs.Words.{lane, lane_bits, pin_bits, test_of, AreWords}
+use Rattle.flat_circuit.proofs.Public.{pins_named, lane_xor, lane_zero, unlike}
 
 pub unlike_differs : (a b x : Bool) → unlike a b ≡ x → a ≢ x → b ≡ true
 unlike_differs true true x e ne = refl
@@ -46,8 +39,7 @@ module _ (c : List Statement) (well : IsWellFormed c) (tests : List Test) (group
   -- a fault on a stem has reached its signal in the lanes in which it is excited
   pub stem_come : (s excited : ℕ) (n : Name) → name_of c s ≡ Some n → f.line ≡ line.Stem s
       → ((k : ℕ) → k < 128 → Decides (lane excited k) ((lane lanes k ≡ true)
-      × (lane_bits c good k n ≢ f.stuck)))
-      → HasCome c tests group f lanes s excited
+      × (lane_bits c good k n ≢ f.stuck))) → HasCome c tests group f lanes s excited
   stem_come s excited n at on is k lt in_lanes = (there, λ p. back p.0 p.1)
     where
       a : Among n (names c)
@@ -112,8 +104,7 @@ module _ (c : List Statement) (well : IsWellFormed c) (tests : List Test) (group
           ∙ equated_gate_named c e.name e.kind e.args gate well number
           (contained c (Gate e.name e.kind e.args) e.stands)) in
           ap (λ x. unlike (lane (slice_index_or good x 0) k) (lane diff k)) number
-          ∙ (sym (lane_xor (slice_index_or good gate 0) diff k)
-          ∙ (valued k lt in_lanes
+          ∙ (sym (lane_xor (slice_index_or good gate 0) diff k) ∙ (valued k lt in_lanes
           ∙ (ap (λ p. value p.0 (pin_bits (Some f) gate p.1 good delta k)) pair
           ∙ (ap (value e.kind) (pins_named c (Some f) good delta gate k e.args
           (λ x. index_zero delta x clear))

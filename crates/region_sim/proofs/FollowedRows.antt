@@ -1,21 +1,17 @@
 -- Rows of a list that are followed one after the other: the tests of a class are taken at its
 -- place, or an entry for the class is added to a list.
-use Rattle.std.proofs.Common.{◌≡◌, ◌≢◌, ◌+◌, ◌<◌, ◌≤◌, ◌⊎◌, inl, inr, ℕ, refl, sym, ◌∙◌, ap}
-use Rattle.std.proofs.Common.{subst, Bool, List, [], ◌∷◌, ◌++◌, length, arith, Some}
-use Rattle.std.proofs.Common.{true}
-use Rattle.std.specs.Prelude.{Contains, slice_get, unwrap_or}
+use Rattle.std.proofs.Common.{◌≡◌, ◌≢◌, ◌+◌, ◌<◌, ◌≤◌, ◌⊎◌, inl, inr, ℕ, refl, sym, ◌∙◌, ap, subst}
+use Rattle.std.proofs.Common.{Bool, List, [], ◌∷◌, ◌++◌, length, arith, Some, true}
+use Rattle.std.{specs.Prelude.{Contains, slice_get, unwrap_or}, proofs.lemmas.List.length-append}
 use Rattle.std.proofs.lemmas.Bool.{cases_eq, cases_lt, false≢true}
-use Rattle.std.proofs.lemmas.List.{length-append}
 use Rattle.std.proofs.lemmas.Option.{get_or_from_slice_get, slice_get_within}
 use Rattle.list_lemmas.proofs.Members.{Among, among, among_append, among_left, among_right}
 use Rattle.list_lemmas.proofs.Members.{contained}
 use Rattle.flat_circuit.specs.declared.block_span.BlockSpan.{BlockSpan}
 use Rattle.flat_circuit.specs.declared.origin.ListedClass.{ListedClass}
-use Rattle.region_sim.specs.Goals.{HasTakenAt}
-use Rattle.region_sim.specs.OpenPlaces.{AreSettled, KeepsClosed}
+use Rattle.region_sim.specs.{Goals.HasTakenAt, OpenPlaces.{AreSettled, KeepsClosed}}
+use Rattle.region_sim.{specs.RegionHits.IsOpenAt, proofs.ListParts.{get_left, get_right}}
 use Rattle.block_sim.specs.Parts.{Parts}
-use Rattle.region_sim.specs.RegionHits.{IsOpenAt}
-use Rattle.region_sim.proofs.ListParts.{get_left, get_right}
 
 -- the place is that of an entry
 abbrev pub IsPlaceOf : {X : Type 0} → (X → ℕ) → List X → ℕ → Type 0
@@ -27,8 +23,7 @@ abbrev pub HaveTakenOr : {K X : Type 0} → (K → Bool) → ((ℕ → Bool) →
     → (X → ℕ) → Parts → BlockSpan → List ListedClass → List X → ℕ → ℕ → List K → List K → Type 0
 HaveTakenOr is_open means place_of job span rows entries from to before now =
     (place : ℕ) (row : ListedClass) → from ≤ place → place < to
-    → IsOpenAt is_open rows before place row
-    → HasTakenAt means job span row before now place
+    → IsOpenAt is_open rows before place row → HasTakenAt means job span row before now place
     ⊎ (IsPlaceOf place_of entries place × (slice_get now place ≡ slice_get before place))
 
 -- what is said of the open rows up to a place is said up to the next one that may be open
@@ -51,11 +46,9 @@ each_over is_open rows before from p q P settled so place row le lt idle = go (c
 -- ---- one row more
 module _ {K X : Type 0} (is_open : K → Bool) (means : (ℕ → Bool) → ℕ → ℕ → K → Type 0)
     (class_of place_of : X → ℕ) (Came : X → Type 0) (job : Parts)
-    (span : BlockSpan) (row : ListedClass) (p : ℕ) (was entries : List X)
-    (old now : List K) where
+    (span : BlockSpan) (row : ListedClass) (p : ℕ) (was entries : List X) (old now : List K) where
   abbrev pub IsTakenOrAdded : Type 0
-  IsTakenOrAdded =
-      ((entries ≡ was) × (length now ≡ length old)
+  IsTakenOrAdded = ((entries ≡ was) × (length now ≡ length old)
       × ((other : ℕ) → other ≢ p → slice_get now other ≡ slice_get old other)
       × HasTakenAt means job span row old now p)
       ⊎ ((now ≡ old) × (one : X) × (class_of one ≡ row.class) × (place_of one ≡ p) × Came one
@@ -68,8 +61,7 @@ module _ {K X : Type 0} (is_open : K → Bool) (means : (ℕ → Bool) → ℕ �
       where
         go : IsTakenOrAdded → Contains entries one
         go (inl s) = subst (λ l. Contains l one) (sym s.0) there
-        go (inr s) = subst (λ l. Contains l one) (sym s.5)
-            (contained (was ++ s.1 ∷ []) one
+        go (inr s) = subst (λ l. Contains l one) (sym s.5) (contained (was ++ s.1 ∷ []) one
             (among_left was (s.1 ∷ []) one (among was one there)))
 
     -- what was kept elsewhere is still
@@ -147,8 +139,7 @@ module _ {K X : Type 0} (is_open : K → Bool) (means : (ℕ → Bool) → ℕ �
                 let last : length was + 0 ≡ k = omega (arith, le, end, long) in
                 let both : Some s ≡ Some other = sym (get_right was (s ∷ []) 0)
                 ∙ (ap (slice_get (was ++ s ∷ [])) last ∙ there) in
-                let same : place_of s ≡ place_of other =
-                ap (λ o. place_of (unwrap_or o s)) both in
+                let same : place_of s ≡ place_of other = ap (λ o. place_of (unwrap_or o s)) both in
                 let before = behind one (i, first, get_or_from_slice_get was i one one one_is) in
                 omega (arith, before, same, at)
 
@@ -185,8 +176,7 @@ module _ {K X : Type 0} (is_open : K → Bool) (means : (ℕ → Bool) → ℕ �
             → HasTakenAt means job span other before now place
             ⊎ (IsPlaceOf place_of entries place × (slice_get now place ≡ slice_get before place))
         keep ne (inl h) = inl (h.0, h.1, h.2, elsewhere place ne ∙ h.3, h.4)
-        keep ne (inr h) =
-            inr ((h.0.0, still h.0.0 h.0.1, h.0.2), elsewhere place ne ∙ h.1)
+        keep ne (inr h) = inr ((h.0.0, still h.0.0 h.0.1, h.0.2), elsewhere place ne ∙ h.1)
 
         go : (place ≡ p) ⊎ (place ≢ p) → HasTakenAt means job span other before now place
             ⊎ (IsPlaceOf place_of entries place × (slice_get now place ≡ slice_get before place))
@@ -222,8 +212,7 @@ module _ {K X : Type 0} (is_open : K → Bool) (means : (ℕ → Bool) → ℕ �
 
     -- what stands at the places of the entries is what stood there before
     pub still_more : (before : List K) → slice_get old p ≡ slice_get before p
-        → ((one : X) → Contains was one → place_of one < p)
-        → ((one : X) → Contains was one
+        → ((one : X) → Contains was one → place_of one < p) → ((one : X) → Contains was one
         → slice_get old (place_of one) ≡ slice_get before (place_of one))
         → (one : X) → Contains entries one
         → slice_get now (place_of one) ≡ slice_get before (place_of one)
@@ -235,8 +224,7 @@ module _ {K X : Type 0} (is_open : K → Bool) (means : (ℕ → Bool) → ℕ �
             let member = subst (λ l. Contains l one) s.0 there in
             let low = behind one member in
             elsewhere (place_of one) (λ e. omega (arith, low, e)) ∙ so one member
-        each_with (inr s) one there =
-            ap (λ l. slice_get l (place_of one)) s.0
+        each_with (inr s) one there = ap (λ l. slice_get l (place_of one)) s.0
             ∙ each_more (λ x. slice_get old (place_of x) ≡ slice_get before (place_of x))
             (λ x class at came. ap (slice_get old) at ∙ (agree ∙ ap (slice_get before) (sym at)))
             so one there

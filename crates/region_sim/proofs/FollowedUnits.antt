@@ -1,16 +1,13 @@
 -- Classes that are followed on a unit, one after the other.
 use Rattle.std.proofs.Common.{◌≡◌, ◌+◌, ◌<◌, ◌≤◌, ◌⊎◌, ℕ, sym, ◌∙◌, ap, subst, Bool, List, length}
-use Rattle.std.proofs.Common.{arith, true}
-use Rattle.std.specs.Prelude.{Some, slice_get}
+use Rattle.std.{proofs.Common.{arith, true}, specs.Prelude.{Some, slice_get}}
 use Rattle.wide_words.specs.Wide.{number}
 use Rattle.flat_circuit.specs.declared.origin.ListedClass.{ListedClass}
-use Rattle.region_sim.specs.declared.unit_simulation.UnitClass.{UnitClass}
-use Rattle.block_sim.specs.Parts.{Parts}
-use Rattle.region_sim.specs.OpenPlaces.{KeepsClosed}
+use Rattle.region_sim.specs.{declared.unit_simulation.UnitClass.UnitClass, OpenPlaces.KeepsClosed}
 use Rattle.region_sim.specs.UnitHits.{AreClassesAt, AreClassesInOrder, AreClassesOpen}
 use Rattle.region_sim.specs.UnitHits.{AreClassesStill, HaveArrivedInUnit, HaveTakenBeside}
-use Rattle.region_sim.specs.UnitHits.{IsTakenOrCame}
-use Rattle.region_sim.specs.Units.{ArrivesInUnit, unit_span}
+use Rattle.region_sim.specs.{UnitHits.IsTakenOrCame, Units.{ArrivesInUnit, unit_span}}
+use Rattle.block_sim.specs.Parts.{Parts}
 use Rattle.region_sim.proofs.FollowedRows as rows_followed
 
 -- ---- one row more
@@ -52,8 +49,7 @@ module _ {K : Type 0} (is_open : K → Bool) (means : (ℕ → Bool) → ℕ →
 
   pub others_more : (from : ℕ) (first : List K) → from ≤ p
       → ((place : ℕ) → (place < from) ⊎ (p ≤ place) → slice_get old place ≡ slice_get first place)
-      → (place : ℕ) → (place < from) ⊎ (p + 1 ≤ place)
-      → slice_get now place ≡ slice_get first place
+      → (place : ℕ) → (place < from) ⊎ (p + 1 ≤ place) → slice_get now place ≡ slice_get first place
   others_more = rows_followed.others_more is_open means class_of place_of Came job (unit_span group)
       row p was classes old now step
 
@@ -75,8 +71,7 @@ module _ {K : Type 0} (is_open : K → Bool) (means : (ℕ → Bool) → ℕ →
     pub at_more : AreClassesAt rows from (p + 1) classes
     at_more =
         rows_followed.each_more is_open means class_of place_of Came job (unit_span group) row p was
-        classes old now step
-        (λ (one : UnitClass). (from ≤ one.place) × (one.place < p + 1)
+        classes old now step (λ (one : UnitClass). (from ≤ one.place) × (one.place < p + 1)
         × (r : ListedClass) × (slice_get rows one.place ≡ Some r) × (r.class ≡ one.class))
         (λ one class place came. (
           omega (arith, place, after),
@@ -84,8 +79,7 @@ module _ {K : Type 0} (is_open : K → Bool) (means : (ℕ → Bool) → ℕ →
           row,
           ap (slice_get rows) place ∙ is,
           sym class,
-        ))
-        (λ one there. let b = at one there in let lt = b.1 in
+        )) (λ one there. let b = at one there in let lt = b.1 in
         (b.0, omega (arith, lt), b.2, b.3, b.4))
 
     pub order_more : AreClassesInOrder was → AreClassesInOrder classes

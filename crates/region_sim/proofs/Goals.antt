@@ -1,10 +1,8 @@
 -- What goals keep of a class after the tests of a word more.
 use Rattle.std.proofs.Common.{◌≡◌, ◌<◌, ◌≤◌, ◌+◌, ◌-◌, ◌⊎◌, inl, inr, ℕ, Bool, true, false, Option}
-use Rattle.std.specs.Option.{is_some}
-use Rattle.std.proofs.Common.{Some, None, refl, sym, ◌∙◌, ap, arith}
+use Rattle.std.{proofs.Common.{Some, None, refl, sym, ◌∙◌, ap, arith}, specs.Option.is_some}
 use Rattle.std.proofs.lemmas.Bool.{cases_lt, false≢true}
-use Rattle.region_sim.proofs.OneLane.{bit_cases}
-use Rattle.region_sim.specs.Goals.{IsFirstHit, TellHits}
+use Rattle.region_sim.{proofs.OneLane.bit_cases, specs.Goals.{IsFirstHit, TellHits}}
 use Rattle.flat_circuit.specs.Words.{lane}
 
 module _ (hits : ℕ → Bool) (first low from to word : ℕ) (le : low ≤ from)
@@ -36,8 +34,7 @@ module _ (hits : ℕ → Bool) (first low from to word : ℕ) (le : low ≤ from
               let end = (tells.right k lt on).1 in
               let low_j : j < k = omega (arith, same, below) in
               let lit = tells.whole j (omega (arith, same, after)) (omega (arith, same, below, end))
-              (ap hits same ∙ hit)
-              (inr (λ i under. least i (omega (arith, under, low_j)))) in
+              (ap hits same ∙ hit) (inr (λ i under. least i (omega (arith, under, low_j)))) in
               absurd (false≢true (sym (least j low_j) ∙ lit))
 
   -- without a lane there is no hit

@@ -3,33 +3,16 @@ use Rattle.std.proofs.Common.{◌≡◌, ◌≢◌, ◌<◌, ◌≤◌, ◌+◌,
 use Rattle.std.proofs.Common.{true, false, List, [], ◌∷◌, ◌++◌, length, set, arith, eqb, eq-eqb}
 use Rattle.std.proofs.Common.{eqb-true, inl, inr, ◌⊎◌, get_or, length-append}
 use Rattle.std.specs.Prelude.{Option, Some, None, slice_get, slice_index_or, if◌then◌else◌, map}
-use Rattle.std.specs.Prelude.{unwrap_or}
-use Rattle.std.specs.List.{enumerate_from, list_any}
-use Rattle.std.proofs.lemmas.Bool.{cases_eq, cases_lt}
-use Rattle.std.proofs.lemmas.List.{length-map, length-set}
-use Rattle.std.proofs.lemmas.List.FromFn.{length-enumerate_from}
-use Rattle.std.proofs.lemmas.Map.Keys.{IsDistinct-from_apart}
+use Rattle.std.specs.{Prelude.unwrap_or, List.{enumerate_from, list_any}}
+use Rattle.std.proofs.lemmas.{Bool.{cases_eq, cases_lt}, List.{length-map, length-set}}
+use Rattle.std.proofs.lemmas.{List.FromFn.length-enumerate_from, Map.Keys.IsDistinct-from_apart}
 use Rattle.std.proofs.lemmas.Map.Steps.{length-le_from_distinct_below}
 use Rattle.std.proofs.lemmas.Option.{slice_get-get_or, slice_get_past, slice_get_within}
-use Rattle.list_lemmas.proofs.Members.{among, some_passes}
-use Rattle.list_lemmas.proofs.Places.{from_mapped, placed}
+use Rattle.list_lemmas.proofs.{Members.{among, some_passes}, Places.{from_mapped, placed}}
 use Rattle.region_sim.specs.KnownWide.{AreKnownAt, known_wide, word_at, word_of}
 use Rattle.region_sim.specs.declared.known_wide.KnownWord.{KnownWord}
-
--- ---- reads of a list that was changed at one place or at the end
-got_same : {X : Type 0} (xs : List X) (i : ℕ) (x : X) → i < length xs
-    → slice_get (set xs i x) i ≡ Some x
-got_same [] i x lt = absurd (omega (arith, lt))
-got_same (y ∷ xs) zero x lt = refl
-got_same (y ∷ xs) (suc i) x lt = got_same xs i x (omega (arith, lt))
-
-got_other : {X : Type 0} (xs : List X) (i j : ℕ) (x : X) → j ≢ i
-    → slice_get (set xs i x) j ≡ slice_get xs j
-got_other [] i j x ne = refl
-got_other (y ∷ xs) zero zero x ne = absurd (ne refl)
-got_other (y ∷ xs) zero (suc j) x ne = refl
-got_other (y ∷ xs) (suc i) zero x ne = refl
-got_other (y ∷ xs) (suc i) (suc j) x ne = got_other xs i j x (λ e. ne (ap suc e))
+pub use Rattle.std.proofs.lemmas.Option.{same_Some as same_some}
+use Rattle.flat_circuit.proofs.Public.{set_there as got_other, set_here as got_same}
 
 got_before : {X : Type 0} (xs : List X) (i : ℕ) (x : X) → i < length xs
     → slice_get (xs ++ x ∷ []) i ≡ slice_get xs i
@@ -40,9 +23,6 @@ got_before (y ∷ xs) (suc i) x lt = got_before xs i x (omega (arith, lt))
 got_last : {X : Type 0} (xs : List X) (x : X) → slice_get (xs ++ x ∷ []) (length xs) ≡ Some x
 got_last [] x = refl
 got_last (y ∷ xs) x = got_last xs x
-
-pub same_some : {X : Type 0} (x y : X) → Some x ≡ Some y → x ≡ y
-same_some x y e = ap (λ o. unwrap_or o x) e
 
 -- ---- the word of one signal
 own_word : (s : ℕ) (one : KnownWord) → one.signal ≡ s → word_of s (Some one) ≡ Some one.word
@@ -66,18 +46,15 @@ read_from : (known : List KnownWord) (n : ℕ) (places : List ℕ) (s place : �
     → slice_index_or (map (word_at known) (enumerate_from n places)) s None
     ≡ word_of (n + s) (slice_get known place)
 read_from known n [] s place e = let bad : None ≡ Some place = e in cc
-read_from known n (p ∷ places) zero place e =
-    ap (λ m. word_of m (slice_get known p)) (omega arith)
+read_from known n (p ∷ places) zero place e = ap (λ m. word_of m (slice_get known p)) (omega arith)
     ∙ ap (λ q. word_of (n + 0) (slice_get known q)) (same_some p place e)
-read_from known n (p ∷ places) (suc s) place e =
-    read_from known (n + 1) places s place e
+read_from known n (p ∷ places) (suc s) place e = read_from known (n + 1) places s place e
     ∙ ap (λ m. word_of m (slice_get known place)) (omega arith)
 
 pub read : (known : List KnownWord) (places : List ℕ) (s place : ℕ)
     → slice_get places s ≡ Some place
     → slice_index_or (known_wide known places) s None ≡ word_of s (slice_get known place)
-read known places s place e =
-    read_from known 0 places s place e
+read known places s place e = read_from known 0 places s place e
     ∙ ap (λ m. word_of m (slice_get known place)) (omega arith)
 
 -- nothing is known among no words
@@ -87,8 +64,7 @@ none_from n [] s = refl
 none_from n (p ∷ places) zero = refl
 none_from n (p ∷ places) (suc s) = none_from (n + 1) places s
 
-pub none_known : (places : List ℕ) (s : ℕ)
-    → slice_index_or (known_wide [] places) s None ≡ None
+pub none_known : (places : List ℕ) (s : ℕ) → slice_index_or (known_wide [] places) s None ≡ None
 none_known places s = none_from 0 places s
 
 -- lists of one length that differ at one place at most
@@ -98,19 +74,16 @@ one_set : {X : Type 0} (old new : List X) (s : ℕ) (x d : X) → length new ≡
     → new ≡ set old s x
 one_set {X} [] new s x d same lt here all = absurd (omega (arith, lt))
 one_set {X} (o ∷ old) [] s x d same lt here all = absurd (omega (arith, same))
-one_set {X} (o ∷ old) (n ∷ new) zero x d same lt here all =
-    ap (λ y. y ∷ new) here
+one_set {X} (o ∷ old) (n ∷ new) zero x d same lt here all = ap (λ y. y ∷ new) here
     ∙ ap (λ l. x ∷ l) (rest old new (omega (arith, same))
     (λ t below. all (suc t) (omega (arith, below)) (omega arith)))
   where
     rest : (old new : List X) → length new ≡ length old
-        → ((t : ℕ) → t < length old → slice_index_or new t d ≡ slice_index_or old t d)
-        → new ≡ old
+        → ((t : ℕ) → t < length old → slice_index_or new t d ≡ slice_index_or old t d) → new ≡ old
     rest [] [] same all = refl
     rest [] (n ∷ new) same all = absurd (omega (arith, same))
     rest (o ∷ old) [] same all = absurd (omega (arith, same))
-    rest (o ∷ old) (n ∷ new) same all =
-        ap (λ y. y ∷ new) (all 0 (omega arith))
+    rest (o ∷ old) (n ∷ new) same all = ap (λ y. y ∷ new) (all 0 (omega arith))
         ∙ ap (λ l. o ∷ l) (rest old new (omega (arith, same))
         (λ t below. all (suc t) (omega (arith, below))))
 one_set {X} (o ∷ old) (n ∷ new) (suc s) x d same lt here all =
@@ -128,8 +101,7 @@ signal_of one = one.signal
 
 few_known : (places : List ℕ) (known : List KnownWord)
     → ((place : ℕ) (one : KnownWord) → slice_get known place ≡ Some one
-    → slice_get places one.signal ≡ Some place)
-    → length known ≤ length places
+    → slice_get places one.signal ≡ Some place) → length known ≤ length places
 few_known places known found =
     let short = length-map known signal_of in
     let few = length-le_from_distinct_below signals (length places)
@@ -146,8 +118,7 @@ few_known places known found =
 
     apart : (i j d : ℕ) → i < j → j < length signals
         → eqb (get_or signals i d) (get_or signals j d) ≡ false
-    apart i j d lt low =
-        not_true (eqb (get_or signals i d) (get_or signals j d)) (λ e.
+    apart i j d lt low = not_true (eqb (get_or signals i d) (get_or signals j d)) (λ e.
         let same = eqb-true (get_or signals i d) (get_or signals j d) e in
         let one = place_of i (get_or signals i d)
         (slice_get-get_or signals i d (omega (arith, lt, low))) in
@@ -170,11 +141,7 @@ module _ (places : List ℕ) (known : List KnownWord) (room : ℕ) (k : AreKnown
   module _ (one new : KnownWord) (here : slice_get known place ≡ Some one)
       (was : one.signal ≡ s) (is : new.signal ≡ s) where
     pub again_found : AreKnownAt places (set known place new) room
-    again_found = record {
-      few = k.few;
-      found = found;
-      roomy = k.roomy;
-    }
+    again_found = record { few = k.few; found = found; roomy = k.roomy }
       where
         found : (p : ℕ) (w : KnownWord) → slice_get (set known place new) p ≡ Some w
             → slice_get places w.signal ≡ Some p
@@ -197,10 +164,8 @@ module _ (places : List ℕ) (known : List KnownWord) (room : ℕ) (k : AreKnown
         let long = count known places in
         one_set (known_wide known places) (known_wide (set known place new) places) s
         (Some new.word) None (count (set known place new) places ∙ sym long)
-        (omega (arith, lt, long))
-        (read (set known place new) places s place leads
-        ∙ (ap (word_of s) (got_same known place new low) ∙ own_word s new is))
-        (λ t below ne.
+        (omega (arith, lt, long)) (read (set known place new) places s place leads
+        ∙ (ap (word_of s) (got_same known place new low) ∙ own_word s new is)) (λ t below ne.
         let p = get_or places t 0 in
         let at = slice_get-get_or places t 0 (omega (arith, below, long)) in
         read (set known place new) places t p at
@@ -213,8 +178,7 @@ module _ (places : List ℕ) (known : List KnownWord) (room : ℕ) (k : AreKnown
             ap (λ q. word_of t (slice_get (set known place new) q)) same
             ∙ (ap (word_of t) (got_same known place new low)
             ∙ (other_word t new (λ e. ne (sym e ∙ is))
-            ∙ (sym (other_word t one (λ e. ne (sym e ∙ was)))
-            ∙ (ap (word_of t) (sym here)
+            ∙ (sym (other_word t one (λ e. ne (sym e ∙ was))) ∙ (ap (word_of t) (sym here)
             ∙ ap (λ q. word_of t (slice_get known q)) (sym same)))))
         go t ne p (inr other) = ap (word_of t) (got_other known place p new other)
 
@@ -272,8 +236,7 @@ module _ (places : List ℕ) (known : List KnownWord) (room : ℕ) (k : AreKnown
         one_set (known_wide known places) (known_wide all next) s
         (Some new.word) None (count all next ∙ (same ∙ sym long)) (omega (arith, lt, long))
         (read all next s (length known) (got_same places s (length known) lt)
-        ∙ (ap (word_of s) (got_last known new) ∙ own_word s new is))
-        (λ t below ne.
+        ∙ (ap (word_of s) (got_last known new) ∙ own_word s new is)) (λ t below ne.
         let p = get_or places t 0 in
         let at = slice_get-get_or places t 0 (omega (arith, below, long)) in
         read all next t p (got_other places s t (length known) ne ∙ at)
@@ -282,13 +245,11 @@ module _ (places : List ℕ) (known : List KnownWord) (room : ℕ) (k : AreKnown
         past : (t : ℕ) → t ≢ s → (p : ℕ) → length known ≤ p
             → (p ≡ length known) ⊎ (p ≢ length known)
             → word_of t (slice_get (known ++ new ∷ []) p) ≡ None
-        past t ne p le (inl last) =
-            ap (λ q. word_of t (slice_get (known ++ new ∷ []) q)) last
+        past t ne p le (inl last) = ap (λ q. word_of t (slice_get (known ++ new ∷ []) q)) last
             ∙ (ap (word_of t) (got_last known new) ∙ other_word t new (λ e. ne (sym e ∙ is)))
         past t ne p le (inr other) =
             let long = length-append known (new ∷ []) in
-            ap (word_of t) (slice_get_past (known ++ new ∷ []) p
-            (omega (arith, le, other, long)))
+            ap (word_of t) (slice_get_past (known ++ new ∷ []) p (omega (arith, le, other, long)))
 
         go : (t : ℕ) → t ≢ s → (p : ℕ) → (p < length known) ⊎ (length known ≤ p)
             → word_of t (slice_get (known ++ new ∷ []) p) ≡ word_of t (slice_get known p)

@@ -1,14 +1,12 @@
 -- The known words of signals, by their marks.
-use Rattle.std.proofs.Common.{◌≡◌, ◌≢◌, ◌<◌, ◌==◌, ℕ, zero, suc, refl, sym, ◌∙◌, ap, Bool}
-use Rattle.std.proofs.Common.{true, false, List, [], ◌∷◌, ◌++◌, length, set, take, arith, eq-eqb}
-use Rattle.std.proofs.Common.{eqb-true}
-use Rattle.std.specs.Prelude.{Some, None, slice_index_or, if◌then◌else◌}
+use Rattle.std.proofs.Common.{◌≡◌, ◌≢◌, ◌<◌, ◌==◌, ℕ, zero, suc, refl, sym, ◌∙◌, ap, Bool, true}
+use Rattle.std.proofs.Common.{false, List, [], ◌∷◌, ◌++◌, length, set, take, arith, eq-eqb}
+use Rattle.std.{proofs.Common.eqb-true, specs.Prelude.{Some, None, slice_index_or, if◌then◌else◌}}
 use Rattle.std.proofs.Math.Seq.{take-append_seam}
 use Rattle.region_sim.specs.KnownWords.{known_words}
 
 pub known_count : {X : Type 0} (unit : ℕ) (marks : List ℕ) (words : List X) → length marks ≡ length
-    words
-    → length (known_words unit marks words) ≡ length words
+    words → length (known_words unit marks words) ≡ length words
 known_count unit [] [] e = refl
 known_count unit [] (w ∷ words) e = absurd (omega (arith, e))
 known_count unit (m ∷ marks) [] e = absurd (omega (arith, e))
@@ -29,8 +27,7 @@ known_here unit (x ∷ marks) (y ∷ words) (suc s) mark word e lt m w is =
     known_here unit marks words s mark word (omega (arith, e)) (omega (arith, lt)) m w is
 
 pub unknown_here : {X : Type 0} (unit : ℕ) (marks : List ℕ) (words : List X) (s mark : ℕ) → length
-    marks ≡ length words
-    → s < length words → mark ≡ slice_index_or marks s mark → mark ≢ unit
+    marks ≡ length words → s < length words → mark ≡ slice_index_or marks s mark → mark ≢ unit
     → None ≡ slice_index_or (known_words unit marks words) s None
 unknown_here unit [] [] s mark e lt m other = absurd (omega (arith, lt))
 unknown_here unit [] (y ∷ words) s mark e lt m other = absurd (omega (arith, e))
@@ -59,8 +56,7 @@ none_known unit (m ∷ marks) (w ∷ words) (suc s) other =
 
 -- a word that is kept is known, and the other words are known as before
 pub known_more : {X : Type 0} (unit : ℕ) (marks : List ℕ) (words : List X) (s : ℕ) (word : X) →
-    length marks ≡ length words
-    → known_words unit (set marks s unit) (set words s word)
+    length marks ≡ length words → known_words unit (set marks s unit) (set words s word)
     ≡ set (known_words unit marks words) s (Some word)
 known_more unit [] [] zero word e = refl
 known_more unit [] [] (suc s) word e = refl

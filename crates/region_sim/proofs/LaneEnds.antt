@@ -1,19 +1,14 @@
 -- One lane of a simulation by events: what is seen of it, and which gates it makes active.
-use Rattle.std.proofs.Common.{◌≡◌, ◌≢◌, ℕ, refl, sym, ◌∙◌, ap}
-use Rattle.std.proofs.Common.{Bool, true, false, List, arith, inl}
+use Rattle.std.proofs.Common.{◌≡◌, ◌≢◌, ℕ, refl, sym, ◌∙◌, ap, Bool, true, false, List, arith, inl}
 use Rattle.std.specs.Prelude.{Contains, Some, None, slice_index_or}
-use Rattle.bench_net.specs.declared.Sink.{Sink}
-use Rattle.bench_net.specs.Statement.{Name, Statement}
+use Rattle.bench_net.specs.{declared.Sink.Sink, Statement.{Name, Statement}, Circuit.IsWellFormed}
 use Rattle.bench_net.specs.Scan.{names, signal, observers}
-use Rattle.bench_net.specs.Circuit.{IsWellFormed}
 use Rattle.list_lemmas.proofs.Members.{among}
-use Rattle.fault_model.specs.Fault.{Fault, branch}
-use Rattle.fault_model.specs.Solution.{Test, Solves, Detects, shows}
+use Rattle.fault_model.specs.{Fault.{Fault, branch}, Solution.{Test, Solves, Detects, shows}}
 use Rattle.fault_model.proofs.Public.{detection_is_of_any_solution, has_solutions, observes}
 use Rattle.fault_model.proofs.Public.{under_other}
-use Rattle.flat_circuit.specs.Readers.{IsObserved, IsRising, observed}
+use Rattle.flat_circuit.{specs.Readers.{IsObserved, IsRising, observed}, proofs.Public.unlike}
 use Rattle.block_sim.specs.Events.{IsElsewhere}
-use Rattle.flat_circuit.proofs.Public.{unlike}
 use Rattle.region_sim.proofs.OneLane.{IsLane, differing, kept_bit, right_by_now, turned_back}
 
 module _ (c : List Statement) (well : IsWellFormed c) (rising : IsRising c) (t : Test) (f : Fault)

@@ -1,20 +1,15 @@
 -- One lane of a simulation by events: one evaluation keeps what is true in it.
-use Rattle.std.proofs.Common.{◌≡◌, ◌≢◌, ◌<◌, ◌≤◌, ℕ, ◌+◌, refl, sym, ◌∙◌, ap, subst}
-use Rattle.std.proofs.Common.{Bool, true, false, List, arith, inl, inr, ◌⊎◌}
+use Rattle.std.proofs.Common.{◌≡◌, ◌≢◌, ◌<◌, ◌≤◌, ℕ, ◌+◌, refl, sym, ◌∙◌, ap, subst, Bool, true}
+use Rattle.std.proofs.Common.{false, List, arith, inl, inr, ◌⊎◌}
 use Rattle.std.specs.Prelude.{Contains, Some, None, slice_index_or}
 use Rattle.std.proofs.lemmas.Bool.{cases_eq, cases_lt, false≢true}
-use Rattle.bench_net.specs.Statement.{Name, Statement}
-use Rattle.bench_net.specs.Scan.{names, signal}
-use Rattle.bench_net.specs.Circuit.{IsWellFormed}
+use Rattle.bench_net.specs.{Statement.{Name, Statement}, Scan.{names, signal}, Circuit.IsWellFormed}
 use Rattle.list_lemmas.proofs.Members.{among, contained}
 use Rattle.fault_model.specs.declared.Line.TheVariants as line
-use Rattle.fault_model.specs.Fault.{Fault}
-use Rattle.fault_model.specs.Solution.{Test, Solves, under, value}
+use Rattle.fault_model.specs.{Fault.Fault, Solution.{Test, Solves, under, value}}
 use Rattle.fault_model.proofs.Public.{pins_agree}
-use Rattle.flat_circuit.specs.Readers.{IsLive, IsRising, Reads}
-use Rattle.block_sim.specs.Events.{HasEquation, IsElsewhere}
-use Rattle.block_sim.specs.Propagation.{Counts}
-use Rattle.flat_circuit.proofs.Public.{unlike}
+use Rattle.flat_circuit.{specs.Readers.{IsLive, IsRising, Reads}, proofs.Public.unlike}
+use Rattle.block_sim.specs.{Events.{HasEquation, IsElsewhere}, Propagation.Counts}
 use Rattle.block_sim.proofs.Public.{reader_live, each_equation, equation_elsewhere}
 use Rattle.region_sim.proofs.OneLane.{IsLane, bit_cases, differing, equation_like, kept_bit}
 use Rattle.region_sim.proofs.OneLane.{right_by_now, same_bit, self}
@@ -29,8 +24,7 @@ module _ (c : List Statement) (well : IsWellFormed c) (rising : IsRising c) (t :
   still_gate d g s ne r here clear =
       let faulty = here.gate r.name r.kind r.args r.number r.gate in
       let good = (equation_elsewhere c t f v g (elsewhere g ne) (each_equation c t None v free
-      g)).gate
-      r.name r.kind r.args r.number r.gate in
+      g)).gate r.name r.kind r.args r.number r.gate in
       let same = ap (λ bits. under (Some f) (line.Stem g) (value r.kind bits))
       (pins_agree (Some f) (differing c v d) v g 0 r.args
       (λ a h. ap (unlike (v a)) (clear (signal c a) (record {
@@ -98,8 +92,7 @@ module _ (c : List Statement) (well : IsWellFormed c) (rising : IsRising c) (t :
     same_or_anew : (e g ≡ d g) ⊎ (e g ≢ d g)
     same_or_anew = go (bit_cases (e g)) (bit_cases (d g))
       where
-        go : (e g ≡ true) ⊎ (e g ≡ false) → (d g ≡ true) ⊎ (d g ≡ false)
-            → (e g ≡ d g) ⊎ (e g ≢ d g)
+        go : (e g ≡ true) ⊎ (e g ≡ false) → (d g ≡ true) ⊎ (d g ≡ false) → (e g ≡ d g) ⊎ (e g ≢ d g)
         go (inl a) (inl b) = inl (a ∙ sym b)
         go (inl a) (inr b) = inr (λ is. false≢true (sym b ∙ (sym is ∙ a)))
         go (inr a) (inl b) = inr (λ is. false≢true (sym a ∙ (is ∙ b)))
@@ -116,8 +109,7 @@ module _ (c : List Statement) (well : IsWellFormed c) (rising : IsRising c) (t :
         → HasEquation c t (Some f) (differing c v e) s
     balanced_now on s is_counted idle = go (cases_eq s g)
       where
-        kept_one : s ≢ g → (e g ≡ d g) ⊎ (e g ≢ d g)
-            → HasEquation c t (Some f) (differing c v e) s
+        kept_one : s ≢ g → (e g ≡ d g) ⊎ (e g ≢ d g) → HasEquation c t (Some f) (differing c v e) s
         kept_one ne (inl is) = equation_like c well rising t f start v elsewhere free d e s
             (sym (everywhere is s)) (λ p r. sym (everywhere is p))
             (h.balanced on s is_counted (waited s ne idle))

@@ -37,8 +37,7 @@ taken_few (y ∷ xs) (suc n) zero x e = omega arith
 taken_few (y ∷ xs) (suc n) (suc i) x e = let lt = taken_few xs n i x e in omega (arith, lt)
 
 pub out_of_range : {X : Type 0} (xs : List X) (a b i : ℕ) (x : X)
-    → slice_get (slice_range xs a b) i ≡ Some x
-    → (i < b - a) × (slice_get xs (a + i) ≡ Some x)
+    → slice_get (slice_range xs a b) i ≡ Some x → (i < b - a) × (slice_get xs (a + i) ≡ Some x)
 out_of_range xs a b i x e =
     let lt : i < b - a = taken_few (drop a xs) (b - a) i x e in (
       lt,

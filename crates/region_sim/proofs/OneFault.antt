@@ -1,28 +1,19 @@
 -- A fault under one test: what its line, complemented or not, tells of its detection.
-use Rattle.std.proofs.Common.{◌≡◌, ◌≢◌, ℕ, sym, ◌∙◌, ap, subst, Bool, true, not}
-use Rattle.std.proofs.Common.{List}
-use Rattle.std.proofs.Common.{inl}
-use Rattle.std.specs.Prelude.{◌↔◌, Contains, Some, None, unwrap_or}
-use Rattle.std.specs.Bool.{Decides}
-use Rattle.bench_net.specs.Statement.{Name, Statement, Gate}
-use Rattle.bench_net.specs.Scan.{names, signal, name_of}
-use Rattle.bench_net.specs.Circuit.{IsWellFormed}
-use Rattle.list_lemmas.proofs.Members.{Among, contained}
-use Rattle.list_lemmas.proofs.Places.{at_place}
-use Rattle.bench_net.proofs.Public.{name_of-signal, signal-name_of}
+use Rattle.std.proofs.Common.{◌≡◌, ◌≢◌, ℕ, sym, ◌∙◌, ap, subst, Bool, true, not, List, inl}
+use Rattle.std.specs.{Prelude.{◌↔◌, Contains, Some, None, unwrap_or}, Bool.Decides}
+use Rattle.bench_net.specs.{Statement.{Name, Statement, Gate}, Scan.{names, signal, name_of}}
+use Rattle.bench_net.{specs.Circuit.IsWellFormed, proofs.Public.{name_of-signal, signal-name_of}}
+use Rattle.list_lemmas.proofs.{Members.{Among, contained}, Places.at_place}
 use Rattle.fault_model.specs.declared.Line.TheVariants as line
-use Rattle.fault_model.specs.declared.Model.{Model}
-use Rattle.fault_model.specs.Fault.{Fault, faults}
+use Rattle.fault_model.specs.{declared.Model.Model, Fault.{Fault, faults}}
 use Rattle.fault_model.specs.Solution.{Test, Solves, Detects, value, pins_see}
-use Rattle.fault_model.specs.Detection.{HasBit, name_on}
-use Rattle.fault_model.proofs.Public.{agree, carries as carries_named}
-use Rattle.fault_model.proofs.Public.{has_solutions, pins_agree, under_other}
+use Rattle.fault_model.{specs.Detection.{HasBit, name_on}, proofs.Public.under_other}
+use Rattle.fault_model.proofs.Public.{agree, carries as carries_named, has_solutions, pins_agree}
 use Rattle.block_sim.specs.Flips.{Alters, DetectsFlip, start_of}
 use Rattle.block_sim.proofs.Public.{Enters, arg_named, gate_named_of_entered_gates as gate_named}
 use Rattle.block_sim.proofs.Public.{outside, altered, entered_back, entered_there, not_itself}
+use Rattle.block_sim.proofs.Public.{stem_back, stem_stuck, stem_there, turned_of, observer_law}
 use Rattle.flat_circuit.proofs.Public.{unlike}
-use Rattle.block_sim.proofs.Public.{stem_back, stem_stuck, stem_there, turned_of}
-use Rattle.block_sim.proofs.Public.{observer_law}
 use Rattle.region_sim.proofs.FaultLanes.{unlike_differs, unlike_turns}
 
 module _ (c : List Statement) (well : IsWellFormed c) (t : Test) (f : Fault) (u : Name → Bool)
@@ -78,8 +69,7 @@ module _ (c : List Statement) (well : IsWellFormed c) (t : Test) (f : Fault) (u 
         let off : f.line ≢ line.Stem (signal c e.name) =
         λ stems. (let bad : line.Pin gate pin ≡ line.Stem (signal c e.name) = sym on
         ∙ stems in cc) in
-        valued
-        ∙ (ap (λ g. value e.kind (pins_see (Some f) u g e.args)) (sym number)
+        valued ∙ (ap (λ g. value e.kind (pins_see (Some f) u g e.args)) (sym number)
         ∙ (ap (value e.kind) (pins_agree (Some f) u v (signal c e.name) 0 e.args same)
         ∙ sym (q.gate e.name e.kind e.args (contained c (Gate e.name e.kind e.args) e.stands)
         ∙ under_other f (line.Stem (signal c e.name)) _ off)))
@@ -128,13 +118,7 @@ module _ (c : List Statement) (well : IsWellFormed c) (t : Test) (f : Fault) (u 
       → start_of f.line ≡ None → name_on c f.line ≡ Some n
       → (b : Bool) → Decides b (u n ≢ f.stuck) → Decides b (Detects c t f)
   observer_reached m n at none carries b is = (
-    λ e. law.1 (
-      u,
-      n,
-      solves,
-      carries,
-      turned_of f.stuck (u n) (λ same. (is.0 e) (sym same)),
-    ),
+    λ e. law.1 (u, n, solves, carries, turned_of f.stuck (u n) (λ same. (is.0 e) (sym same))),
     λ d. is.1 (other (law.0 d)),
   )
     where

@@ -1,25 +1,21 @@
 -- One lane of a simulation by events: a test, and a signal that starts complemented. Which signals
 -- differ stands apart from how lanes are laid out in words.
-use Rattle.std.proofs.Common.{◌≡◌, ◌≢◌, ◌<◌, ◌≤◌, ℕ, zero, suc, refl, sym, ◌∙◌, ap, subst}
-use Rattle.std.proofs.Common.{Bool, true, false, not, List, arith, inl, inr, ◌⊎◌}
+use Rattle.std.proofs.Common.{◌≡◌, ◌≢◌, ◌<◌, ◌≤◌, ℕ, zero, suc, refl, sym, ◌∙◌, ap, subst, Bool}
+use Rattle.std.proofs.Common.{true, false, not, List, arith, inl, inr, ◌⊎◌}
 use Rattle.std.specs.Prelude.{Contains, Some, None, slice_index_or, map}
 use Rattle.std.proofs.lemmas.Bool.{cases_eq, false≢true}
-use Rattle.bench_net.specs.Statement.{Name, Statement, Gate}
-use Rattle.bench_net.specs.Scan.{names, signal, sources, inputs, cells}
-use Rattle.bench_net.specs.Circuit.{IsWellFormed}
+use Rattle.bench_net.specs.{Statement.{Name, Statement, Gate}, Circuit.IsWellFormed}
+use Rattle.bench_net.{specs.Scan.{names, signal, sources, inputs, cells}, proofs.Public.read_named}
 use Rattle.list_lemmas.proofs.Members.{Among, among, contained, among_left, among_right}
 use Rattle.list_lemmas.proofs.Places.{placed}
-use Rattle.bench_net.proofs.Public.{read_named}
 use Rattle.fault_model.specs.declared.Line.TheVariants as line
-use Rattle.fault_model.specs.Fault.{Fault}
-use Rattle.fault_model.specs.Solution.{Test, Solves, under, value}
+use Rattle.fault_model.specs.{Fault.Fault, Solution.{Test, Solves, under, value}}
 use Rattle.fault_model.proofs.Public.{Driven, driven, pins_agree}
-use Rattle.flat_circuit.specs.Readers.{IsLive, IsRising, Reads}
-use Rattle.block_sim.specs.Events.{HasEquation, IsElsewhere}
-use Rattle.block_sim.specs.Propagation.{Counts}
-use Rattle.flat_circuit.proofs.Public.{unlike}
-use Rattle.block_sim.proofs.Public.{counts_closed, reader_live, each_equation}
-use Rattle.block_sim.proofs.Public.{equation_elsewhere, equation_same}
+use Rattle.flat_circuit.{specs.Readers.{IsLive, IsRising, Reads}, proofs.Public.unlike}
+use Rattle.block_sim.specs.{Events.{HasEquation, IsElsewhere}, Propagation.Counts}
+use Rattle.block_sim.proofs.Public.{counts_closed, reader_live, each_equation, equation_elsewhere}
+use Rattle.block_sim.proofs.Public.{equation_same}
+pub use Rattle.std.proofs.lemmas.Bool.{cases_Bool as bit_cases}
 
 -- the bits of a valuation, but complemented where a signal differs
 abbrev pub differing : List Statement → (Name → Bool) → (ℕ → Bool) → Name → Bool
@@ -59,19 +55,13 @@ pub turned_back : (a b : Bool) → b ≡ true → a ≢ unlike a b
 turned_back true b e h = let n : true ≡ not b = h in absurd (false≢true (sym (ap not e) ∙ sym n))
 turned_back false b e h = let n : false ≡ b = h in absurd (false≢true (n ∙ e))
 
-pub bit_cases : (b : Bool) → (b ≡ true) ⊎ (b ≡ false)
-bit_cases true = inl refl
-bit_cases false = inr refl
-
 module _ (c : List Statement) (well : IsWellFormed c) (rising : IsRising c) (t : Test) (f : Fault)
     (start : ℕ) (v : Name → Bool) (elsewhere : (s : ℕ) → s ≢ start → IsElsewhere f s)
     (free : Solves c t None v) where
   -- the equation of a signal depends on where it and the signals that it reads differ
   pub equation_like : (d e : ℕ → Bool) (s : ℕ) → d s ≡ e s → ((p : ℕ) → Reads c s p → d p ≡ e p)
-      → HasEquation c t (Some f) (differing c v d) s
-      → HasEquation c t (Some f) (differing c v e) s
-  equation_like d e s own read h =
-      equation_same c t (Some f) (differing c v d) (differing c v e) s
+      → HasEquation c t (Some f) (differing c v d) s → HasEquation c t (Some f) (differing c v e) s
+  equation_like d e s own read h = equation_same c t (Some f) (differing c v d) (differing c v e) s
       (λ n number. ap (unlike (v n)) (ap d number ∙ (own ∙ sym (ap e number))))
       (λ n a kind args number at there. ap (unlike (v a)) (read (signal c a) (record {
         name = n;
@@ -86,10 +76,8 @@ module _ (c : List Statement) (well : IsWellFormed c) (rising : IsRising c) (t :
 
   -- where neither a signal nor what it reads differs
   pub equation_free : (d : ℕ → Bool) (s : ℕ) → s ≢ start → d s ≡ false
-      → ((p : ℕ) → Reads c s p → d p ≡ false)
-      → HasEquation c t (Some f) (differing c v d) s
-  equation_free d s ne own read =
-      equation_elsewhere c t f (differing c v d) s (elsewhere s ne)
+      → ((p : ℕ) → Reads c s p → d p ≡ false) → HasEquation c t (Some f) (differing c v d) s
+  equation_free d s ne own read = equation_elsewhere c t f (differing c v d) s (elsewhere s ne)
       (equation_same c t None v (differing c v d) s
       (λ n number. sym (ap (unlike (v n)) (ap d number ∙ own) ∙ kept_bit (v n)))
       (λ n a kind args number at there. sym (ap (unlike (v a)) (read (signal c a) (record {
@@ -101,8 +89,7 @@ module _ (c : List Statement) (well : IsWellFormed c) (rising : IsRising c) (t :
         number = number;
         reads = there;
         of = refl;
-      })) ∙ kept_bit (v a)))
-      (each_equation c t None v free s))
+      })) ∙ kept_bit (v a))) (each_equation c t None v free s))
 
   -- ---- below the level every signal that counts has its true bit
   module _ (at : List ℕ) (d : ℕ → Bool) (level : ℕ)
@@ -137,8 +124,7 @@ module _ (c : List Statement) (well : IsWellFormed c) (rising : IsRising c) (t :
             let gate = contained c (Gate n x.0 x.1) x.2 in
             equation.gate n x.0 x.1 refl gate
             ∙ (ap (λ bits. under (Some f) (line.Stem (signal c n)) (value x.0 bits))
-            (pins_agree (Some f) (differing c v d) w (signal c n) 0 x.1
-            (λ m h. below m (record {
+            (pins_agree (Some f) (differing c v d) w (signal c n) 0 x.1 (λ m h. below m (record {
               name = n;
               kind = x.0;
               args = x.1;
@@ -147,8 +133,7 @@ module _ (c : List Statement) (well : IsWellFormed c) (rising : IsRising c) (t :
               number = refl;
               reads = contained x.1 m h;
               of = refl;
-            })
-            (among (names c) m (read_named c (Gate n x.0 x.1) m well x.2 h))))
+            }) (among (names c) m (read_named c (Gate n x.0 x.1) m well x.2 h))))
             ∙ sym (solves.gate n x.0 x.1 gate))
 
     below_bound : (bound : ℕ) (n : Name) → Among n (names c) → Counts c self start (signal c n)
@@ -162,8 +147,7 @@ module _ (c : List Statement) (well : IsWellFormed c) (rising : IsRising c) (t :
         (omega (arith, up, low)) (omega (arith, up, under_level)))
 
     pub right_by_now : (n : Name) → Among n (names c) → Counts c self start (signal c n)
-        → signal c n ≤ level → slice_index_or at (signal c n) 0 ≡ 0
-        → differing c v d n ≡ w n
+        → signal c n ≤ level → slice_index_or at (signal c n) 0 ≡ 0 → differing c v d n ≡ w n
     right_by_now n a is_counted low idle = right_here n a is_counted idle
         (λ m r in_names. let up = rising (signal c n) (signal c m) r in
         below_bound level m in_names
@@ -171,8 +155,7 @@ module _ (c : List Statement) (well : IsWellFormed c) (rising : IsRising c) (t :
         (omega (arith, up, low)) (omega (arith, up, low)))
 
   -- ---- the start: one signal differs, and its live readers wait
-  pub lane_first : (at : List ℕ) (level : ℕ) (d : ℕ → Bool)
-      → ((s : ℕ) → d s ≡ true → s ≡ start)
+  pub lane_first : (at : List ℕ) (level : ℕ) (d : ℕ → Bool) → ((s : ℕ) → d s ≡ true → s ≡ start)
       → (d start ≡ true → (s : ℕ) → Reads c s start → IsLive c s → slice_index_or at s 0 ≢ 0)
       → (d start ≡ true → HasEquation c t (Some f) (differing c v d) start)
       → (d start ≡ true → (n : Name) (w : Name → Bool) → Contains (names c) n

@@ -2,23 +2,17 @@
 use Rattle.std.proofs.Common.{◌≡◌, ◌≢◌, ◌<◌, ◌≤◌, ◌⊎◌, ℕ, ◌+◌, refl, sym, ◌∙◌, ap, arith, inl, inr}
 use Rattle.std.proofs.Common.{Bool, true, false, ◌||◌, List, length, map, set, subst}
 use Rattle.std.specs.Prelude.{Contains, Some, bit_or, slice_get, slice_index_or, slice_range}
-use Rattle.std.specs.Prelude.{unwrap_or}
-use Rattle.std.specs.Bool.{Decides}
-use Rattle.std.proofs.lemmas.Bool.{cases_eq, false≢true, or_cases, or_left}
+use Rattle.std.{specs.Prelude.unwrap_or, specs.Bool.Decides, proofs.lemmas.Nat.le_or_l}
+use Rattle.std.proofs.lemmas.Bool.{cases_eq, false≢true, or_cases, or_left, or_right as right}
 use Rattle.std.proofs.lemmas.List.{get_or-set_same, get_or-set_other}
-use Rattle.std.proofs.lemmas.Nat.{le_or_l}
 use Rattle.bench_net.specs.Statement.{Statement}
-use Rattle.list_lemmas.proofs.Members.{contained}
-use Rattle.list_lemmas.proofs.Places.{at_place, place_within}
+use Rattle.list_lemmas.proofs.{Members.contained, Places.{at_place, place_within}}
 use Rattle.wide_words.specs.Lanes.{Layout, lane_in, slot_of}
-use Rattle.region_sim.specs.declared.pack.Slot.{Slot}
-use Rattle.block_sim.specs.declared.propagation.Followed.{Followed}
-use Rattle.flat_circuit.specs.Readers.{IsLive, Reads}
-use Rattle.block_sim.specs.Events.{AreScheduled}
-use Rattle.region_sim.specs.Pack.{AreStarted, HaveLane, IsIn, stem_at}
-use Rattle.flat_circuit.specs.Words.{lane}
-use Rattle.flat_circuit.proofs.Public.{lane_or, lane_zero, mapped_at, at_end}
+use Rattle.region_sim.specs.{declared.pack.Slot.Slot, Pack.{AreStarted, HaveLane, IsIn, stem_at}}
 use Rattle.region_sim.proofs.PackRanges.{in_range, range_from}
+use Rattle.block_sim.specs.{declared.propagation.Followed.Followed, Events.AreScheduled}
+use Rattle.flat_circuit.specs.{Readers.{IsLive, Reads}, Words.lane}
+use Rattle.flat_circuit.proofs.Public.{lane_or, lane_zero, mapped_at, at_end}
 
 -- Of the first slots, as many as the number, the stems differ, each in the lanes of its own slot in
 -- which a class came to it.
@@ -40,10 +34,6 @@ pub record HaveBegun (layout : Layout) (c : List Statement) (stems : List Slot)
   pub waiting : (r : ℕ) → slice_index_or at r 0 ≢ 0
       → (s : ℕ) × (slice_index_or delta s 0 ≢ 0) × Reads c r s × IsLive c r
   pub least : (s : ℕ) → slice_index_or delta s 0 ≢ 0 → from ≤ s
-
-right : (a b : Bool) → b ≡ true → (a || b) ≡ true
-right true b e = refl
-right false b e = e
 
 same_bits : (a b : Bool) → (a ≡ true → b ≡ true) → (b ≡ true → a ≡ true) → a ≡ b
 same_bits true b f g = sym (f refl)
@@ -113,8 +103,7 @@ module _ (layout : Layout) (c : List Statement) (stems : List Slot) (followed : 
       least = h.least;
     }
       where
-        all : (k : ℕ) (one : Followed) → k < 512
-            → (slot_of layout k < i) ⊎ (slot_of layout k ≡ i)
+        all : (k : ℕ) (one : Followed) → k < 512 → (slot_of layout k < i) ⊎ (slot_of layout k ≡ i)
             → IsIn layout stems followed k one → lane mask k ≡ true
         all k one lt (inl below) came = h.all k one lt below came
         all k one lt (inr e) came = absurd (false≢true (sym (lane_zero k)
@@ -124,8 +113,7 @@ module _ (layout : Layout) (c : List Statement) (stems : List Slot) (followed : 
     module _ (after later : List ℕ) (all_lanes least : ℕ) (within : own.stem < length delta)
         (some_lane : (k : ℕ) × (k < 512) × (lane lanes k ≡ true))
         (changed : after ≡ set delta own.stem (bit_or (slice_index_or delta own.stem 0) lanes))
-        (joined : all_lanes ≡ bit_or mask lanes)
-        (low : least ≤ from) (low_own : least ≤ own.stem)
+        (joined : all_lanes ≡ bit_or mask lanes) (low : least ≤ from) (low_own : least ≤ own.stem)
         (scheduled : slice_index_or delta own.stem 0 ≡ 0 → AreScheduled c own.stem at later)
         (same : slice_index_or delta own.stem 0 ≢ 0 → later ≡ at) where
       here : slice_index_or after own.stem 0 ≡ bit_or (slice_index_or delta own.stem 0) lanes
@@ -232,13 +220,11 @@ module _ (layout : Layout) (c : List Statement) (stems : List Slot) (followed : 
                     comes = some.2;
                   },
                 ),
-                ap (λ x. lane (slice_index_or after x 0) k) (sym (own_stem k e))
-                    ∙ (here_lane k
+                ap (λ x. lane (slice_index_or after x 0) k) (sym (own_stem k e)) ∙ (here_lane k
                     ∙ right (lane (slice_index_or delta own.stem 0) k) (lane lanes k) new),
               )
 
-      all_now : (k : ℕ) (one : Followed) → k < 512
-          → (slot_of layout k < i) ⊎ (slot_of layout k ≡ i)
+      all_now : (k : ℕ) (one : Followed) → k < 512 → (slot_of layout k < i) ⊎ (slot_of layout k ≡ i)
           → IsIn layout stems followed k one → lane all_lanes k ≡ true
       all_now k one lt (inl below) came = mask_lane k
           ∙ or_left (lane mask k) (lane lanes k) (h.all k one lt below came)

@@ -1,18 +1,14 @@
 -- A gate on wide words: in each lane, the folds over the words of its pins, and what the word of a
 -- form differs from the fault-free one.
-use Rattle.std.proofs.Common.{◌≡◌, ◌<◌, ℕ, ◌/◌, ◌%◌, refl, sym, ◌∙◌, ap}
-use Rattle.std.proofs.Common.{Bool, true, false, not, List, [], ◌∷◌, map}
-use Rattle.std.proofs.Common.{arith, inl, inr, ◌⊎◌}
+use Rattle.std.proofs.Common.{◌≡◌, ◌<◌, ℕ, ◌/◌, ◌%◌, refl, sym, ◌∙◌, ap, Bool, true, false, not}
+use Rattle.std.{proofs.Common.{List, [], ◌∷◌, map, arith, inl, inr, ◌⊎◌}, specs.List.list_all}
 use Rattle.std.specs.Prelude.{slice_index_or, if◌then◌else◌}
-use Rattle.std.specs.List.{list_all}
 use Rattle.bench_net.specs.declared.Kind.{Kind}
 use Rattle.fault_model.specs.Solution.{is_odd, value}
 use Rattle.wide_words.specs.Lanes.{IsLayout, Layout, lane_in, slot_of, slots}
-use Rattle.flat_circuit.specs.declared.gate_form.GateForm.{GateForm}
-use Rattle.flat_circuit.specs.GateForms.{IsFormOf, inverted_if}
+use Rattle.flat_circuit.specs.{declared.gate_form.GateForm.GateForm, Words.lane}
+use Rattle.flat_circuit.{specs.GateForms.{IsFormOf, inverted_if}, proofs.Public.unlike}
 use Rattle.region_sim.specs.Pack.{wide_bit}
-use Rattle.flat_circuit.specs.Words.{lane}
-use Rattle.flat_circuit.proofs.Public.{unlike}
 
 -- the lane of a group that a lane of a wide word copies is one of 128
 pub in_group : (layout : Layout) → IsLayout layout → (k : ℕ) → lane_in layout k < 128
@@ -73,8 +69,7 @@ difference_bit false false true = refl
 difference_bit false false false = refl
 
 -- ---- an XOR of bits that differ is inverted where an odd number of them do
-odd_inverted : (d g : ℕ → Bool) (pins : List ℕ)
-    → is_odd (map (λ s. inverted_if (d s) (g s)) pins)
+odd_inverted : (d g : ℕ → Bool) (pins : List ℕ) → is_odd (map (λ s. inverted_if (d s) (g s)) pins)
     ≡ inverted_if (is_odd (map d pins)) (is_odd (map g pins))
 odd_inverted d g [] = refl
 odd_inverted d g (p ∷ pins) = step (d p) (g p) (is_odd (map d pins)) (is_odd (map g pins))
@@ -123,8 +118,7 @@ module _ (layout : Layout) (good : ℕ → List ℕ) (delta : List ℕ) (kind : 
   pub and_value : (all bit turn : Bool) → form.is_xor ≡ false → turn ≡ form.inverts_output
       → all ≡ list_all (λ b. inverted_if form.inverts_inputs b) seen
       → inverted_if (unlike all (unlike bit turn)) bit ≡ value kind seen
-  and_value all bit turn and flip is =
-      difference_bit all bit turn
+  and_value all bit turn and flip is = difference_bit all bit turn
       ∙ (ap (λ t. inverted_if t all) flip
       ∙ (ap (inverted_if form.inverts_output) (is ∙ chosen) ∙ formed seen))
     where
@@ -136,8 +130,7 @@ module _ (layout : Layout) (good : ℕ → List ℕ) (delta : List ℕ) (kind : 
   pub xor_value : (odd bit : Bool) → form.is_xor ≡ true
       → odd ≡ is_odd (map (λ s. lane (slice_index_or delta s 0) k) pins)
       → bit ≡ value kind free → inverted_if odd bit ≡ value kind seen
-  xor_value odd bit xor is solves =
-      ap (inverted_if odd) (solves ∙ (sym (formed free)
+  xor_value odd bit xor is solves = ap (inverted_if odd) (solves ∙ (sym (formed free)
       ∙ ap (inverted_if form.inverts_output) (chosen free)))
       ∙ (swapped odd form.inverts_output (is_odd free)
       ∙ (ap (inverted_if form.inverts_output) (ap (λ b. inverted_if b (is_odd free)) is

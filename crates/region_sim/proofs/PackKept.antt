@@ -1,20 +1,15 @@
 -- The lanes of a pack that are still followed after more were seen: of those that are left out each
 -- class that came has a hit.
-use Rattle.std.proofs.Common.{◌≡◌, ◌≢◌, ◌<◌, ◌≤◌, ◌⊎◌, ℕ, zero, suc}
-use Rattle.std.proofs.Common.{◌+◌, sym, ◌∙◌, ap, arith, inl, inr}
-use Rattle.std.proofs.Common.{Bool, true, false, ◌&&◌, List, length}
+use Rattle.std.proofs.Common.{◌≡◌, ◌≢◌, ◌<◌, ◌≤◌, ◌⊎◌, ℕ, zero, suc, ◌+◌, sym, ◌∙◌, ap, arith, inl}
+use Rattle.std.proofs.Common.{inr, Bool, true, false, ◌&&◌, List, length}
 use Rattle.std.specs.Prelude.{Contains, slice_range, ◌==◌}
 use Rattle.std.proofs.lemmas.Bool.{and_from, cases_eq, cases_lt, eq-eqb, eqb-true, false≢true}
 use Rattle.list_lemmas.proofs.Places.{place_within, within_place}
 use Rattle.wide_words.specs.Lanes.{IsLayout, Layout, lane_in, slot_of}
 use Rattle.block_sim.specs.declared.propagation.Followed.{Followed}
-use Rattle.region_sim.specs.declared.pack.Slot.{Slot}
-use Rattle.region_sim.specs.Pack.{AreKeptAfter, HaveHitsIn, IsIn}
-use Rattle.flat_circuit.specs.Words.{lane}
-use Rattle.region_sim.proofs.OneLane.{bit_cases}
-use Rattle.region_sim.proofs.PackRanges.{in_range}
-use Rattle.region_sim.proofs.PackSlots.{lanes_rise}
-use Rattle.flat_circuit.proofs.Public.{left_of, right_of}
+use Rattle.region_sim.specs.{declared.pack.Slot.Slot, Pack.{AreKeptAfter, HaveHitsIn, IsIn}}
+use Rattle.region_sim.proofs.{OneLane.bit_cases, PackRanges.in_range, PackSlots.lanes_rise}
+use Rattle.flat_circuit.{specs.Words.lane, proofs.Public.{left_of, right_of}}
 
 -- the least number that passes is below a bound, or none is
 found_below : (p : ℕ → Bool) (n : ℕ) → ((m : ℕ) × (m < n) × (p m ≡ true))
@@ -86,15 +81,12 @@ module _ (layout : Layout) (sized : IsLayout layout) (stems : List Slot) (follow
         let m = have one listed own.comes in
         let le = m.1 in
         false≢true (sym (none m.0 (omega (arith, le)))
-        ∙ and_from _ _ (eq-eqb (slot_of layout m.0) (slot_of layout k) m.2)
-        (and_from _ _ m.3 m.4))
+        ∙ and_from _ _ (eq-eqb (slot_of layout m.0) (slot_of layout k) m.2) (and_from _ _ m.3 m.4))
 
     pub kept_hit : Hit
     kept_hit = go (found_below hit (k + 1))
       where
-        go : ((m : ℕ) × (m < k + 1) × (hit m ≡ true)) ⊎ ((m : ℕ) → m < k + 1 → hit m ≡ false)
-            → Hit
+        go : ((m : ℕ) × (m < k + 1) × (hit m ≡ true)) ⊎ ((m : ℕ) → m < k + 1 → hit m ≡ false) → Hit
         go (inl m) = from_hit m
-        go (inr none) = absurd (false≢true (sym off ∙ (h.stale k lt
-            (λ beside. false≢true (sym off
+        go (inr none) = absurd (false≢true (sym off ∙ (h.stale k lt (λ beside. false≢true (sym off
             ∙ (h.narrowed k own.slot lt below own.stands beside).1 (was, no_hits none))) ∙ was)))

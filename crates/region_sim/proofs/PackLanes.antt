@@ -1,25 +1,20 @@
 -- A simulation by events of many lanes at once, each with a test and a signal of its own that
 -- starts complemented. The gates that wait are common to all lanes.
-use Rattle.std.proofs.Common.{◌≡◌, ◌≢◌, ◌<◌, ◌≤◌, ℕ, ◌+◌, refl, sym, ◌∙◌, ap, subst}
-use Rattle.std.proofs.Common.{Bool, true, false, ◌&&◌, ◌||◌, List, length}
-use Rattle.std.proofs.Common.{set, arith, inl, inr, ◌⊎◌}
+use Rattle.std.proofs.Common.{◌≡◌, ◌≢◌, ◌<◌, ◌≤◌, ℕ, ◌+◌, refl, sym, ◌∙◌, ap, subst, Bool, true}
+use Rattle.std.proofs.Common.{false, ◌&&◌, ◌||◌, List, length, set, arith, inl, inr, ◌⊎◌}
 use Rattle.std.specs.Prelude.{Contains, Some, None, slice_index_or, count_by}
-use Rattle.std.proofs.lemmas.Bool.{cases_eq, false≢true}
+use Rattle.std.proofs.lemmas.Bool.{cases_eq, false≢true, and_left as both_off, or_cases as or_true}
+use Rattle.std.proofs.lemmas.Bool.{or_right as or_right_true, or_left as or_left_true}
 use Rattle.std.proofs.lemmas.List.{get_or-set_same, get_or-set_other}
-use Rattle.bench_net.specs.declared.Sink.{Sink}
-use Rattle.bench_net.specs.Statement.{Name, Statement}
-use Rattle.bench_net.specs.Scan.{observers}
+use Rattle.bench_net.specs.{declared.Sink.Sink, Statement.{Name, Statement}, Scan.observers}
 use Rattle.bench_net.specs.Circuit.{IsWellFormed}
-use Rattle.fault_model.specs.Fault.{Fault, branch}
-use Rattle.fault_model.specs.Solution.{Test, Detects, Solves}
+use Rattle.fault_model.specs.{Fault.{Fault, branch}, Solution.{Test, Detects, Solves}}
 use Rattle.flat_circuit.specs.Readers.{IsLive, IsObserved, IsRising, Reads}
-use Rattle.block_sim.specs.Events.{AreScheduled, HasEquation, IsElsewhere}
-use Rattle.block_sim.specs.Propagation.{is_pending}
-use Rattle.region_sim.proofs.LaneEnds.{lane_detects, lane_misses}
-use Rattle.region_sim.proofs.LaneSteps.{lane_evaluated}
+use Rattle.block_sim.specs.{Events.{AreScheduled, HasEquation, IsElsewhere}, Propagation.is_pending}
+use Rattle.block_sim.proofs.Public.{pending_higher, pending_scheduled, pending_taken}
+use Rattle.region_sim.proofs.{LaneEnds.{lane_detects, lane_misses}, LaneSteps.lane_evaluated}
 use Rattle.region_sim.proofs.OneLane.{IsLane, bit_cases, differing, lane_higher, lane_narrower}
 use Rattle.region_sim.proofs.OneLane.{self}
-use Rattle.block_sim.proofs.Public.{pending_higher, pending_scheduled, pending_taken}
 
 -- What each lane stands for: a test, a fault that starts at a signal, and the bits without it.
 pub record Lanes (c : List Statement) (count : ℕ) : Type 0 where
@@ -63,25 +58,9 @@ pub record ArePropagating (c : List Statement) (count : ℕ) (lanes : Lanes c co
   pub shown : (s k : ℕ) → k < count → m.kept k ≡ true → IsObserved c s → m.delta s k ≡ true
       → m.seen k ≡ true
 
-or_left_true : (a b : Bool) → a ≡ true → (a || b) ≡ true
-or_left_true true b e = refl
-or_left_true false b e = absurd (false≢true e)
-
-or_right_true : (a b : Bool) → b ≡ true → (a || b) ≡ true
-or_right_true true b e = refl
-or_right_true false b e = e
-
-or_true : (a b : Bool) → (a || b) ≡ true → (a ≡ true) ⊎ (b ≡ true)
-or_true true b e = inl refl
-or_true false b e = inr e
-
 or_none : (a b : Bool) → b ≡ false → (a || b) ≡ a
 or_none true b e = refl
 or_none false b e = e
-
-both_off : (a b : Bool) → a ≡ false → (a && b) ≡ false
-both_off true b e = absurd (false≢true (sym e))
-both_off false b e = refl
 
 with_on : (a b : Bool) → a ≡ true → (a && b) ≡ b
 with_on true b e = refl
@@ -150,10 +129,8 @@ module _ (c : List Statement) (well : IsWellFormed c) (rising : IsRising c) (cou
   module _ (m n : LanesMoment) (h : ArePropagating c count lanes m)
       (in_at : m.level < length m.at) (waiting : slice_index_or m.at m.level 0 ≢ 0)
       (next : n.level ≡ m.level + 1) (kept : (k : ℕ) → k < count → n.kept k ≡ m.kept k)
-      (others : (s k : ℕ) → k < count → s ≢ m.level → n.delta s k ≡ m.delta s k)
-      (x : ℕ → Bool)
-      (here : (k : ℕ) → k < count
-      → n.delta m.level k ≡ (m.delta m.level k || (m.kept k && x k)))
+      (others : (s k : ℕ) → k < count → s ≢ m.level → n.delta s k ≡ m.delta s k) (x : ℕ → Bool)
+      (here : (k : ℕ) → k < count → n.delta m.level k ≡ (m.delta m.level k || (m.kept k && x k)))
       (valued : (k : ℕ) → k < count → m.kept k ≡ true → m.level ≢ lanes.stem k
       → (e : ℕ → Bool) → ((s : ℕ) → s ≢ m.level → e s ≡ m.delta s k) → e m.level ≡ x k
       → HasEquation c (lanes.test k) (Some (lanes.fault k)) (differing c (lanes.free k) e) m.level)
@@ -164,8 +141,7 @@ module _ (c : List Statement) (well : IsWellFormed c) (rising : IsRising c) (cou
       (has_all : (k : ℕ) → k < count → n.delta m.level k ≡ true → n.has m.level ≡ true)
       (scheduled : m.has m.level ≡ false → n.has m.level ≡ true
       → AreScheduled c m.level (set m.at m.level 0) n.at)
-      (same_at : (m.has m.level ≡ true) ⊎ (n.has m.level ≡ false)
-      → n.at ≡ set m.at m.level 0)
+      (same_at : (m.has m.level ≡ true) ⊎ (n.has m.level ≡ false) → n.at ≡ set m.at m.level 0)
       (fresh : ℕ → Bool) (seen : (k : ℕ) → k < count → n.seen k ≡ (m.seen k || fresh k))
       (fresh_found : (k : ℕ) → k < count → fresh k ≡ true
       → IsObserved c m.level × (n.delta m.level k ≡ true))
@@ -179,8 +155,7 @@ module _ (c : List Statement) (well : IsWellFormed c) (rising : IsRising c) (cou
     not_taken s ne = (other, λ e. ne (get_or-set_other m.at m.level s 0 0 other ∙ e))
       where
         other : s ≢ m.level
-        other e = ne (ap (λ y. slice_index_or taken y 0) e
-            ∙ get_or-set_same m.at m.level 0 0 in_at)
+        other e = ne (ap (λ y. slice_index_or taken y 0) e ∙ get_or-set_same m.at m.level 0 0 in_at)
 
     -- whether its readers were scheduled now
     abbrev Cases : Type 0
@@ -196,8 +171,7 @@ module _ (c : List Statement) (well : IsWellFormed c) (rising : IsRising c) (cou
         go (inr was) (inl now) = inl (scheduled was now, was, now)
         go (inr was) (inr now) = inr (same_at (inr now))
 
-    still : (s : ℕ) → slice_index_or n.at s 0 ≢ 0
-        → ((s ≢ m.level) × (slice_index_or m.at s 0 ≢ 0))
+    still : (s : ℕ) → slice_index_or n.at s 0 ≢ 0 → ((s ≢ m.level) × (slice_index_or m.at s 0 ≢ 0))
         ⊎ (Reads c s m.level × IsLive c s × (m.has m.level ≡ false) × (n.has m.level ≡ true))
     still s ne = go cases
       where
@@ -282,8 +256,7 @@ module _ (c : List Statement) (well : IsWellFormed c) (rising : IsRising c) (cou
         own : m.level ≡ lanes.stem k → n.delta m.level k ≡ m.delta m.level k
         own is = go (bit_cases (m.kept k))
           where
-            go : (m.kept k ≡ true) ⊎ (m.kept k ≡ false)
-                → n.delta m.level k ≡ m.delta m.level k
+            go : (m.kept k ≡ true) ⊎ (m.kept k ≡ false) → n.delta m.level k ≡ m.delta m.level k
             go (inr off) = quiet off
             go (inl on) =
                 let was : m.delta m.level k ≡ true =
@@ -345,8 +318,7 @@ module _ (c : List Statement) (well : IsWellFormed c) (rising : IsRising c) (cou
 
         held : (s k : ℕ) → k < count → n.delta s k ≡ true → (s ≡ m.level) ⊎ (s ≢ m.level)
             → n.has s ≡ true
-        held s k lt on (inl is) = ap n.has is
-            ∙ has_all k lt (sym (ap (λ y. n.delta y k) is) ∙ on)
+        held s k lt on (inl is) = ap n.has is ∙ has_all k lt (sym (ap (λ y. n.delta y k) is) ∙ on)
         held s k lt on (inr ne) = has_others s ne ∙ h.held s k lt (sym (others s k lt ne) ∙ on)
 
         waits : (s r : ℕ) → m.level < s → n.has s ≡ true → Reads c r s → IsLive c r

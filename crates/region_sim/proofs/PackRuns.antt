@@ -1,40 +1,31 @@
 -- A simulation by events of a pack: one evaluation, and what its end tells.
-use Rattle.std.proofs.Common.{◌≡◌, ◌≢◌, ◌<◌, ◌≤◌, ℕ, ◌+◌, refl, sym, ◌∙◌, ap, subst}
-use Rattle.std.proofs.Common.{Bool, true, false, not, ◌&&◌, ◌||◌, List, []}
-use Rattle.std.proofs.Common.{◌∷◌, length, set, arith, inl, inr, ◌⊎◌}
-use Rattle.std.specs.Prelude.{Option, Some, None}
-use Rattle.std.specs.Prelude.{slice_index_or, map, ◌==◌}
-use Rattle.std.specs.Prelude.{unwrap_or}
-use Rattle.std.proofs.lemmas.Bool.{cases_eq, false≢true}
+use Rattle.std.proofs.Common.{◌≡◌, ◌≢◌, ◌<◌, ◌≤◌, ℕ, ◌+◌, refl, sym, ◌∙◌, ap, subst, Bool, true}
+use Rattle.std.proofs.Common.{false, not, ◌&&◌, ◌||◌, List, [], ◌∷◌, length, set, arith, inl, inr}
+use Rattle.std.proofs.{Common.◌⊎◌, lemmas.Bool.{cases_eq, false≢true, or_cases}}
+use Rattle.std.specs.Prelude.{Option, Some, None, slice_index_or, map, ◌==◌, unwrap_or}
 use Rattle.bench_net.specs.Statement.{Name, Statement, Gate, Input, Output, Dff}
 use Rattle.bench_net.specs.Scan.{names, signal, name_of, definition, gate_of, gate_line, sources}
-use Rattle.bench_net.specs.Circuit.{IsWellFormed}
-use Rattle.bench_net.proofs.Public.{signal-name_of}
+use Rattle.bench_net.{specs.Circuit.IsWellFormed, proofs.Public.signal-name_of}
 use Rattle.list_lemmas.proofs.Members.{Among, contained}
 use Rattle.list_lemmas.proofs.Places.{at_place, within_place, place_within as listed_within}
 use Rattle.fault_model.specs.declared.Line.TheVariants as line
-use Rattle.fault_model.specs.Detection.{HasBit}
-use Rattle.fault_model.specs.Solution.{Test, Detects, value}
+use Rattle.fault_model.specs.{Detection.HasBit, Solution.{Test, Detects, value}}
 use Rattle.fault_model.proofs.Public.{IsSource, source_definition}
 use Rattle.wide_words.specs.Lanes.{IsLayout, Layout, lane_in, slot_of}
-use Rattle.flat_circuit.specs.Readers.{IsRising, Reads}
-use Rattle.block_sim.specs.Events.{AreScheduled, HasEquation}
-use Rattle.region_sim.specs.Pack.{AreGateRows, AreGateWords, AreHitIn, AreRows}
-use Rattle.region_sim.specs.Pack.{IsIn, TellsPack, stem_at}
-use Rattle.block_sim.specs.Flips.{DetectsFlip, flip}
-use Rattle.flat_circuit.specs.Words.{AreWords, lane, lane_bits}
-use Rattle.region_sim.specs.declared.pack.Slot.{Slot}
+use Rattle.flat_circuit.specs.{Readers.{IsRising, Reads}, Words.{AreWords, lane, lane_bits}}
+use Rattle.flat_circuit.proofs.Public.{gate_at, nothing, unlike, left_of as and_left}
+use Rattle.block_sim.specs.{Events.{AreScheduled, HasEquation}, Flips.{DetectsFlip, flip}}
 use Rattle.block_sim.specs.declared.propagation.Followed.{Followed}
-use Rattle.flat_circuit.proofs.Public.{gate_at, nothing, unlike}
-use Rattle.block_sim.proofs.Public.{free_pins, bit_is, place_within}
-use Rattle.block_sim.proofs.Public.{equation_elsewhere}
+use Rattle.block_sim.proofs.Public.{free_pins, bit_is, place_within, equation_elsewhere}
 use Rattle.block_sim.proofs.Public.{gate_named_of_signal_equations as gate_named}
-use Rattle.region_sim.proofs.OneLane.{bit_cases, differing}
-use Rattle.region_sim.proofs.PackLanes.{ArePropagating, Lanes, LanesMoment, evaluated}
-use Rattle.region_sim.proofs.PackLanes.{higher, narrower, seen_detects, unseen_misses}
+use Rattle.region_sim.specs.Pack.{AreGateRows, AreGateWords, AreHitIn, AreRows, IsIn, TellsPack}
+use Rattle.region_sim.specs.{Pack.stem_at, declared.pack.Slot.Slot}
+use Rattle.region_sim.proofs.{OneLane.{bit_cases, differing}, PackSteps.{IsStep, wide_bits}}
+use Rattle.region_sim.proofs.PackLanes.{ArePropagating, Lanes, LanesMoment, evaluated, higher}
+use Rattle.region_sim.proofs.PackLanes.{narrower, seen_detects, unseen_misses}
 use Rattle.region_sim.proofs.PackStarts.{pack_moment, stem_bit, stem_lanes}
-use Rattle.region_sim.proofs.PackSteps.{IsStep, wide_bits}
 use Rattle.region_sim.proofs.PackWords.{differs_in, is_some, lane_some}
+pub use Rattle.std.proofs.lemmas.Bool.{or_left as or_on}
 
 twice : (a b : Bool) → unlike a (unlike a b) ≡ b
 twice true true = refl
@@ -52,14 +43,6 @@ like_on f g [] same = refl
 like_on f g (x ∷ xs) same = ap (λ b. b ∷ map f xs) (same x (inl refl))
     ∙ ap (λ ys. g x ∷ ys) (like_on f g xs (λ y a. same y (inr a)))
 
-and_left : (a b : Bool) → (a && b) ≡ true → a ≡ true
-and_left true b e = refl
-and_left false b e = absurd (false≢true e)
-
-or_cases : (a b : Bool) → (a || b) ≡ true → (a ≡ true) ⊎ (b ≡ true)
-or_cases true b e = inl refl
-or_cases false b e = inr e
-
 -- with more lanes that were seen
 pub more_hits : (l : Layout) (slots : List Slot) (followed : List Followed) (seen all k : ℕ)
     → ((j : ℕ) → j < 512 → lane seen j ≡ true → lane all j ≡ true)
@@ -67,15 +50,10 @@ pub more_hits : (l : Layout) (slots : List Slot) (followed : List Followed) (see
 more_hits l slots followed seen all k more h one own = let j = h one own in
     (j.0, j.1, j.2, j.3, j.4, more j.0 j.1 j.5)
 
-pub or_on : (a b : Bool) → a ≡ true → (a || b) ≡ true
-or_on true b e = refl
-or_on false b e = absurd (false≢true e)
-
 -- a signal differs in lanes alone in which it did before or that are followed
 pub stays_inside : (l : Layout) (c : List Statement) (good : ℕ → List ℕ) (kept gate source : ℕ)
     → Reads c gate source → (before waited after waits : List ℕ) (shown : ℕ)
-    → IsStep l c good kept gate before waited after waits shown
-    → (begun : ℕ → Bool)
+    → IsStep l c good kept gate before waited after waits shown → (begun : ℕ → Bool)
     → ((s k : ℕ) → k < 512 → differs_in before s k ≡ true → begun k ≡ true)
     → ((k : ℕ) → k < 512 → lane kept k ≡ true → begun k ≡ true)
     → (s k : ℕ) → k < 512 → differs_in after s k ≡ true → begun k ≡ true
@@ -101,8 +79,7 @@ module _ (l : Layout) (sizes : IsLayout l) (c : List Statement) (well : IsWellFo
   module _ (k : ℕ) (gate source : ℕ) (r : Reads c gate source) (e : ℕ → Bool)
       (is : e gate ≡ unlike (lane (slice_index_or (good (slot_of l k)) gate 0) (lane_in l k))
       (value r.kind (map (λ n. unlike (lane (slice_index_or (good (slot_of l k)) (signal c n) 0)
-      (lane_in l k))
-      (e (signal c n))) r.args))) where
+      (lane_in l k)) (e (signal c n))) r.args))) where
     abbrev bit : ℕ → Bool
     bit s = unlike (lane (slice_index_or (good (slot_of l k)) s 0) (lane_in l k)) (e s)
 
@@ -137,8 +114,7 @@ module _ (l : Layout) (sizes : IsLayout l) (c : List Statement) (well : IsWellFo
           ap bit number
           ∙ (ap (unlike (lane (slice_index_or (good (slot_of l k)) gate 0) (lane_in l k))) is
           ∙ (twice (lane (slice_index_or (good (slot_of l k)) gate 0) (lane_in l k)) _
-          ∙ (ap (value r.kind) (bits r.args)
-          ∙ (ap (λ p. value p.0 (map bit p.1)) pair
+          ∙ (ap (value r.kind) (bits r.args) ∙ (ap (λ p. value p.0 (map bit p.1)) pair
           ∙ (sym (ap (value kind) (bits args))
           ∙ sym (ap (value kind) (free_pins None v gate 0 args tt)))))));
     }
@@ -181,16 +157,13 @@ module _ (l : Layout) (sizes : IsLayout l) (c : List Statement) (well : IsWellFo
         (differing c (lanes.free k) e) gate
     valued k lt on ne e same is =
         equation_elsewhere c (lanes.test k) (lanes.fault k) (differing c (lanes.free k) e) gate
-        (lanes.elsewhere k gate ne)
-        (own_equation k gate by.0 by.3 e (is
+        (lanes.elsewhere k gate ne) (own_equation k gate by.0 by.3 e (is
         ∙ ap (λ bs. unlike (lane (slice_index_or (good (slot_of l k)) gate 0) (lane_in l k)) (value
-        (by.3).kind bs))
-        (like_on (wide_bits l c good before k)
+        (by.3).kind bs)) (like_on (wide_bits l c good before k)
         (λ n. unlike (lane (slice_index_or (good (slot_of l k)) (signal c n) 0) (lane_in l k)) (e
         (signal c n)))
         (by.3).args (λ n a. ap (unlike (lane (slice_index_or (good (slot_of l k)) (signal c n) 0)
-        (lane_in l k)))
-        (sym (same (signal c n) (no_loop (signal c n) (record {
+        (lane_in l k))) (sym (same (signal c n) (no_loop (signal c n) (record {
           name = (by.3).name;
           kind = (by.3).kind;
           args = (by.3).args;
@@ -206,8 +179,7 @@ module _ (l : Layout) (sizes : IsLayout l) (c : List Statement) (well : IsWellFo
 
     pub goes_on : ArePropagating c 512 lanes (moment after waits (gate + 1) less all)
     goes_on = narrower c well rising 512 lanes (moment after waits (gate + 1) kept all)
-        (lane less) narrow
-        (evaluated c well rising 512 lanes (moment before at gate kept seen)
+        (lane less) narrow (evaluated c well rising 512 lanes (moment before at gate kept seen)
         (moment after waits (gate + 1) kept all) here in_at waiting refl (λ k lt. refl)
         (λ s k lt ne. ap (λ word. lane word k) (ev.others s ne)) turns
         (λ k lt. ev.here (by.3).name (by.3).kind (by.3).args k (by.3).gate (by.3).number lt) valued
@@ -222,8 +194,7 @@ module _ (l : Layout) (sizes : IsLayout l) (c : List Statement) (well : IsWellFo
       (h : ArePropagating c 512 (stem_lanes l sizes c well rising tests group good words slots)
       (pack_moment l sizes c well rising tests group good words slots delta at level kept seen))
       (low_stem : (k : ℕ) → slot_of l k < length slots → stem_at l slots k < length (names c))
-      (all : (k : ℕ) (one : Followed) → k < 512 → IsIn l slots followed k one
-      → lane begun k ≡ true)
+      (all : (k : ℕ) (one : Followed) → k < 512 → IsIn l slots followed k one → lane begun k ≡ true)
       (every : Bool) (settled : (k : ℕ) → k < 512 → lane begun k ≡ true → lane kept k ≡ false
       → (every ≡ false) × AreHitIn l slots followed seen k)
       (stop : (kept ≡ 0) ⊎ ((s : ℕ) → slice_index_or at s 0 ≡ 0)) where
@@ -254,8 +225,7 @@ module _ (l : Layout) (sizes : IsLayout l) (c : List Statement) (well : IsWellFo
         ap (λ s. lane (slice_index_or (good (slot_of l k)) s 0) (lane_in l k)) number,
       )
 
-      pub flip_found : lane seen k ≡ true
-          → DetectsFlip c (those.test k) (stem_at l slots k)
+      pub flip_found : lane seen k ≡ true → DetectsFlip c (those.test k) (stem_at l slots k)
       flip_found on = (
         stem_bit l sizes c well rising tests group good words slots k,
         has_bit,
@@ -267,8 +237,7 @@ module _ (l : Layout) (sizes : IsLayout l) (c : List Statement) (well : IsWellFo
       flip_detects d =
           let first : lane_bits c (good (slot_of l k)) (lane_in l k) name.0 ≡ d.0 =
           bit_is c well (those.test k) name.0 d.0 (lane_bits c (good (slot_of l k)) (lane_in l k))
-          among_names
-          (subst (λ x. HasBit c (those.test k) (line.Stem x) d.0) (sym number) d.1)
+          among_names (subst (λ x. HasBit c (those.test k) (line.Stem x) d.0) (sym number) d.1)
           (those.solves k lt) in
           let same : d.0 ≡ stem_bit l sizes c well rising tests group good words slots k =
           sym first ∙ ap (λ s. lane (slice_index_or (good (slot_of l k)) s 0) (lane_in l k))
@@ -289,8 +258,7 @@ module _ (l : Layout) (sizes : IsLayout l) (c : List Statement) (well : IsWellFo
       where
         miss : (k : ℕ) (one : Followed) → k < 512 → IsIn l slots followed k one
             → stem_at l slots k < length (names c) → lane seen k ≡ false
-            → (every ≡ true) ⊎ IsLeast k one
-            → DetectsFlip c (those.test k) (stem_at l slots k)
+            → (every ≡ true) ⊎ IsLeast k one → DetectsFlip c (those.test k) (stem_at l slots k)
             → (lane kept k ≡ true) ⊎ (lane kept k ≡ false) → ⊥
         miss k one lt own low unseen least d (inr off) = go least
           where

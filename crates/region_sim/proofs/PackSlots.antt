@@ -1,27 +1,18 @@
 -- The lanes of a slot, and those of them that are still followed.
-use Rattle.std.proofs.Common.{◌≡◌, ◌≢◌, ◌<◌, ◌≤◌, ℕ, ◌+◌, ◌-◌, ◌*◌}
-use Rattle.std.proofs.Common.{◌/◌, ◌%◌, refl, sym, ◌∙◌, ap, subst}
-use Rattle.std.proofs.Common.{Bool, true, false, ◌&&◌, ◌||◌, List, arith, inl, inr, ◌⊎◌}
+use Rattle.std.proofs.Common.{◌≡◌, ◌≢◌, ◌<◌, ◌≤◌, ℕ, ◌+◌, ◌-◌, ◌*◌, ◌/◌, ◌%◌, refl, sym, ◌∙◌, ap}
+use Rattle.std.proofs.Common.{subst, Bool, true, false, ◌&&◌, ◌||◌, List, arith, inl, inr, ◌⊎◌}
 use Rattle.std.specs.Prelude.{Contains, Some, bit_and, bit_or, bit_xor, slice_get, slice_range}
-use Rattle.std.specs.Prelude.{unwrap_or}
-use Rattle.std.specs.Bool.{Decides}
-use Rattle.std.proofs.lemmas.Bool.{and_from, cases_eq, cases_lt, false≢true, or_cases}
-use Rattle.std.proofs.lemmas.Bool.{or_left}
-use Rattle.list_lemmas.proofs.Members.{contained}
-use Rattle.list_lemmas.proofs.Places.{at_place}
+use Rattle.std.specs.{Prelude.unwrap_or, Bool.Decides}
+use Rattle.std.proofs.lemmas.Bool.{and_from, cases_eq, cases_lt, false≢true, or_cases, or_left}
+use Rattle.list_lemmas.proofs.{Members.contained, Places.at_place}
 use Rattle.wide_words.specs.Lanes.{IsLayout, Layout, lane_in, slot_of, slots}
-use Rattle.block_sim.specs.declared.propagation.Followed.{Followed}
-use Rattle.region_sim.specs.declared.pack.Slot.{Slot}
+use Rattle.block_sim.specs.{declared.propagation.Followed.Followed, Propagation.HaveHits}
+use Rattle.region_sim.{specs.declared.pack.Slot.Slot, proofs.PackGates.in_group}
 use Rattle.region_sim.specs.Pack.{AreKeptAfter, HasLaneBeside, HaveHitsIn, HaveLane}
-use Rattle.block_sim.specs.Propagation.{HaveHits}
-use Rattle.flat_circuit.specs.Words.{lane}
+use Rattle.flat_circuit.{specs.Words.lane, proofs.Public.right_of}
 use Rattle.flat_circuit.proofs.Public.{lane_and, lane_or, lane_xor, unlike, at_end, left_of}
-use Rattle.flat_circuit.proofs.Public.{right_of}
-use Rattle.region_sim.proofs.PackGates.{in_group}
-
-either : (b : Bool) → (b ≡ true) ⊎ (b ≡ false)
-either true = inl refl
-either false = inr refl
+pub use Rattle.region_sim.proofs.OneLane.{kept_bit as unlike_none}
+use Rattle.std.proofs.lemmas.Bool.{cases_Bool as either}
 
 -- ---- places of lanes
 module _ (layout : Layout) (sized : IsLayout layout) where
@@ -57,8 +48,7 @@ module _ (layout : Layout) (sized : IsLayout layout) where
           let p = ap (λ n. k % n) e in
           let q = ap (λ n. m % n) e in omega (arith, same, le, a, b, p, q)
 
-  pub placed : (slot j : ℕ) → slot < slots layout → layout.base ≤ j
-      → j < layout.base + layout.size
+  pub placed : (slot j : ℕ) → slot < slots layout → layout.base ≤ j → j < layout.base + layout.size
       → (m : ℕ) × (m < 512) × (slot_of layout m ≡ slot) × (lane_in layout m ≡ j)
   placed slot j lt up below = go sized.whole
     where
@@ -129,8 +119,7 @@ module _ (layout : Layout) (sized : IsLayout layout) (followed : List Followed)
     (hits_own : (k : ℕ) → k < 512 → slot_of layout k ≡ slot
     → lane hits (lane_in layout k) ≡ lane seen k)
     (hits_rest : (j : ℕ) → (j < layout.base) ⊎ (layout.base + layout.size ≤ j)
-    → lane hits j ≡ false)
-    (below_some : (j : ℕ) → j < 128 → lane below j ≡ true → (one : Followed)
+    → lane hits j ≡ false) (below_some : (j : ℕ) → j < 128 → lane below j ≡ true → (one : Followed)
     × Contains followed one × (lane one.lanes j ≡ true)
     × ((i : ℕ) → i ≤ j → lane one.lanes i ≡ true → lane hits i ≡ false))
     (below_rest : (j : ℕ) → j < 128 → lane below j ≡ false → HaveHits followed hits j)
@@ -141,8 +130,7 @@ module _ (layout : Layout) (sized : IsLayout layout) (followed : List Followed)
     j = lane_in layout k
 
     bit : lane (bit_xor kept put) k ≡ (lane kept k && lane below j)
-    bit = lane_xor kept put k
-        ∙ (ap (unlike (lane kept k)) (put_own k in_word here
+    bit = lane_xor kept put k ∙ (ap (unlike (lane kept k)) (put_own k in_word here
         ∙ (lane_xor lanes (bit_and lanes below) j
         ∙ (ap (unlike (lane lanes j)) (lane_and lanes below j)
         ∙ ap (λ b. unlike b (b && lane below j)) (lanes_own k in_word here))))
@@ -184,10 +172,6 @@ module _ (layout : Layout) (sized : IsLayout layout) (followed : List Followed)
             → (lane below j ≡ true) ⊎ (lane below j ≡ false) → lane below j ≡ true
         go never (inl e) = e
         go never (inr e) = absurd (never (settled_lane e))
-
-pub unlike_none : (b : Bool) → unlike b false ≡ b
-unlike_none true = refl
-unlike_none false = refl
 
 -- ---- slot by slot
 same_slot : (slots : List Slot) (i j : ℕ) (one other : Slot) → i ≡ j → slice_get slots i ≡ Some one
@@ -242,15 +226,13 @@ module _ (layout : Layout) (followed : List Followed) (stems : List Slot) (kept 
             go : (slot_of layout k ≡ i) ⊎ (slot_of layout k ≢ i)
                 → Decides (lane after k) ((lane kept k ≡ true)
                 × (HaveHitsIn layout (slice_range followed slot.begin slot.end) seen k → ⊥))
-            go (inl e) =
-                subst (λ s. Decides (lane after k) ((lane kept k ≡ true)
+            go (inl e) = subst (λ s. Decides (lane after k) ((lane kept k ≡ true)
                 × (HaveHitsIn layout (slice_range followed s.begin s.end) seen k → ⊥)))
                 (same_slot stems i (slot_of layout k) own slot (sym e) is at)
                 (subst (λ b. Decides (lane after k) ((b ≡ true)
                 × (HaveHitsIn layout (slice_range followed own.begin own.end) seen k → ⊥)))
                 (before.beyond k lt (omega (arith, e))) (own_lanes k lt e))
-            go (inr ne) =
-                subst (λ b. Decides b ((lane kept k ≡ true)
+            go (inr ne) = subst (λ b. Decides b ((lane kept k ≡ true)
                 × (HaveHitsIn layout (slice_range followed slot.begin slot.end) seen k → ⊥)))
                 (sym (others k lt ne))
                 (before.narrowed k slot lt (omega (arith, below, ne)) at beside)

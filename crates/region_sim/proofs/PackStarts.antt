@@ -1,27 +1,17 @@
 -- The start of a simulation by events of a pack, and what its end shows.
-use Rattle.std.proofs.Common.{◌≡◌, ◌≢◌, ◌<◌, ℕ, refl, sym, ◌∙◌, ap, subst}
-use Rattle.std.proofs.Common.{Bool, true, false, not, List}
-use Rattle.std.proofs.Common.{length, arith}
+use Rattle.std.proofs.Common.{◌≡◌, ◌≢◌, ◌<◌, ℕ, refl, sym, ◌∙◌, ap, subst, Bool, true, false, not}
+use Rattle.std.proofs.{Common.{List, length, arith}, lemmas.Bool.false≢true}
 use Rattle.std.specs.Prelude.{All, Contains, Some, slice_index_or}
-use Rattle.std.proofs.lemmas.Bool.{false≢true}
-use Rattle.bench_net.specs.Statement.{Name, Statement}
-use Rattle.bench_net.specs.Scan.{names, signal}
-use Rattle.bench_net.specs.Circuit.{IsWellFormed}
-use Rattle.list_lemmas.proofs.Members.{among}
-use Rattle.list_lemmas.proofs.Places.{within_place}
+use Rattle.bench_net.specs.{Statement.{Name, Statement}, Scan.{names, signal}, Circuit.IsWellFormed}
+use Rattle.list_lemmas.proofs.{Members.among, Places.within_place}
 use Rattle.fault_model.specs.declared.Line.TheVariants as line
-use Rattle.fault_model.specs.Solution.{Test, Solves}
-use Rattle.fault_model.proofs.Public.{observes, under_own}
+use Rattle.fault_model.{specs.Solution.{Test, Solves}, proofs.Public.{observes, under_own}}
 use Rattle.wide_words.specs.Lanes.{IsLayout, Layout, lane_in, slot_of}
-use Rattle.flat_circuit.specs.Readers.{IsObserved, IsRising}
-use Rattle.block_sim.specs.Events.{HasEquation, IsElsewhere}
-use Rattle.region_sim.specs.Pack.{AreRows, AreStarted, stem_at}
-use Rattle.block_sim.specs.Flips.{flip}
-use Rattle.flat_circuit.specs.Words.{lane, lane_bits, test_of}
-use Rattle.region_sim.specs.declared.pack.Slot.{Slot}
-use Rattle.block_sim.specs.declared.propagation.Followed.{Followed}
+use Rattle.flat_circuit.specs.{Readers.{IsObserved, IsRising}, Words.{lane, lane_bits, test_of}}
 use Rattle.flat_circuit.proofs.Public.{index_of, mapped_at, unlike}
-use Rattle.block_sim.proofs.Public.{stem_stuck}
+use Rattle.block_sim.specs.{Events.{HasEquation, IsElsewhere}, Flips.flip}
+use Rattle.block_sim.{specs.declared.propagation.Followed.Followed, proofs.Public.stem_stuck}
+use Rattle.region_sim.specs.{Pack.{AreRows, AreStarted, stem_at}, declared.pack.Slot.Slot}
 use Rattle.region_sim.proofs.OneLane.{IsLane, differing, lane_first, turned_bit}
 use Rattle.region_sim.proofs.PackGates.{in_group, slot_low}
 use Rattle.region_sim.proofs.PackLanes.{ArePropagating, Lanes, LanesMoment}
@@ -78,8 +68,7 @@ module _ (l : Layout) (sizes : IsLayout l) (c : List Statement) (well : IsWellFo
     elsewhere = λ k s ne. elsewhere_flip (stem_at l slots k) s (stem_bit k) ne;
     unobserved = λ k o there. (observes c o well there).no_stem (stem_at l slots k);
     own = λ k lt d on. stem_equation (test_of tests (group (slot_of l k)) (lane_in l k)) (stem_at l
-        slots k)
-        (stem_bit k) (lane_bits c (good (slot_of l k)) (lane_in l k))
+        slots k) (stem_bit k) (lane_bits c (good (slot_of l k)) (lane_in l k))
         (λ n number. ap (λ s. lane (slice_index_or (good (slot_of l k)) s 0) (lane_in l k)) number)
         d on;
   }
@@ -131,8 +120,7 @@ module _ (l : Layout) (sizes : IsLayout l) (c : List Statement) (well : IsWellFo
         right : (k : ℕ) → k < 512 → differs_in delta (stem_at l slots k) k ≡ true → (n : Name)
             (w : Name → Bool) → Contains (names c) n → signal c n ≡ stem_at l slots k
             → Solves c (test_of tests (group (slot_of l k)) (lane_in l k)) (Some (flip (stem_at l
-            slots k)
-            (stem_bit k))) w
+            slots k) (stem_bit k))) w
             → differing c (lane_bits c (good (slot_of l k)) (lane_in l k)) (λ s. differs_in delta s
             k) n ≡ w n
         right k lt on n w named number solves =
@@ -140,7 +128,6 @@ module _ (l : Layout) (sizes : IsLayout l) (c : List Statement) (well : IsWellFo
             (ap (λ s. differs_in delta s k) number ∙ on)
             ∙ (turned_bit (lane_bits c (good (slot_of l k)) (lane_in l k) n)
             ∙ (ap not (ap (λ s. lane (slice_index_or (good (slot_of l k)) s 0) (lane_in l k))
-            number)
-            ∙ sym (stem_stuck c well (test_of tests (group (slot_of l k)) (lane_in l k))
+            number) ∙ sym (stem_stuck c well (test_of tests (group (slot_of l k)) (lane_in l k))
             (flip (stem_at l slots k) (stem_bit k)) w n solves (among (names c) n named)
             (ap line.Stem (sym number)))))

@@ -1,32 +1,24 @@
 -- One evaluation of a pack, lane by lane.
-use Rattle.std.proofs.Common.{◌≡◌, ◌≢◌, ◌<◌, ◌⊎◌, ℕ, refl, sym, ◌∙◌, ap, arith, inl, inr}
-use Rattle.std.proofs.Common.{Bool, true, false, ◌&&◌, ◌||◌, List, [], ◌∷◌, length, map}
-use Rattle.std.specs.Prelude.{Contains, bit_and, bit_or, slice_index_or}
-use Rattle.std.specs.Bool.{Decides}
-use Rattle.std.proofs.lemmas.List.{get_or-set_same, get_or-set_other}
-use Rattle.std.proofs.lemmas.Nat.{le_or_l}
-use Rattle.bench_net.specs.declared.Kind.{Kind}
-use Rattle.bench_net.specs.Statement.{Name, Statement, Gate}
-use Rattle.bench_net.specs.Scan.{signal}
+use Rattle.std.proofs.Common.{◌≡◌, ◌≢◌, ◌<◌, ◌⊎◌, ℕ, refl, sym, ◌∙◌, ap, arith, inl, inr, Bool}
+use Rattle.std.proofs.Common.{true, false, ◌&&◌, ◌||◌, List, [], ◌∷◌, length, map}
+use Rattle.std.specs.{Prelude.{Contains, bit_and, bit_or, slice_index_or}, Bool.Decides}
+use Rattle.std.proofs.lemmas.{List.{get_or-set_same, get_or-set_other}, Nat.le_or_l}
+use Rattle.bench_net.specs.{declared.Kind.Kind, Statement.{Name, Statement, Gate}, Scan.signal}
 use Rattle.bench_net.specs.Circuit.{IsWellFormed}
 use Rattle.fault_model.specs.Solution.{value}
 use Rattle.wide_words.specs.Lanes.{Layout, lane_in, slot_of}
-use Rattle.flat_circuit.specs.Readers.{IsObserved}
-use Rattle.block_sim.specs.Events.{AreScheduled}
-use Rattle.flat_circuit.specs.GateForms.{inverted_if}
-use Rattle.region_sim.specs.Pack.{IsEvaluated, wide_bit}
-use Rattle.flat_circuit.specs.Words.{lane}
+use Rattle.flat_circuit.specs.{Readers.IsObserved, GateForms.inverted_if, Words.lane}
 use Rattle.flat_circuit.proofs.Public.{lane_and, lane_or, unlike}
+use Rattle.block_sim.specs.Events.{AreScheduled}
 use Rattle.block_sim.proofs.Public.{gate_named_of_signal_equations as gate_named}
-use Rattle.region_sim.proofs.PackGates.{unlike_is}
+use Rattle.region_sim.{specs.Pack.{IsEvaluated, wide_bit}, proofs.PackGates.unlike_is}
 use Rattle.region_sim.proofs.PackWords.{differs_in, has_word, is_some, none_is, some_is}
 
 -- the bit of a name in a lane
 abbrev pub wide_bits : Layout → List Statement → (ℕ → List ℕ) → List ℕ → ℕ → Name → Bool
 wide_bits l c good delta k n =
     unlike (lane (slice_index_or (good (slot_of l k)) (signal c n) 0) (lane_in l k)) (differs_in
-    delta (signal c n)
-    k)
+    delta (signal c n) k)
 
 -- A gate was evaluated: in the lanes of a mask it comes to differ where its kind gives another bit
 -- for what its pins see than its fault-free one. Where it differs in a lane for the first time its
@@ -69,8 +61,7 @@ module _ (l : Layout) (c : List Statement) (well : IsWellFormed c) (good : ℕ �
     → (k : ℕ) × (k < 512) × (lane (slice_index_or after gate 0) k ≡ true))
     (scheduled : slice_index_or before gate 0 ≡ 0 → slice_index_or after gate 0 ≢ 0
     → AreScheduled c gate waited waits)
-    (same : (slice_index_or before gate 0 ≢ 0) ⊎ (slice_index_or after gate 0 ≡ 0)
-    → waits ≡ waited)
+    (same : (slice_index_or before gate 0 ≢ 0) ⊎ (slice_index_or after gate 0 ≡ 0) → waits ≡ waited)
     (decided : (k : ℕ) → k < 512 → Decides (lane shown k)
     (IsObserved c gate × (slice_index_or before gate 0 ≡ 0)
     × (lane (slice_index_or after gate 0) k ≡ true))) where
@@ -90,8 +81,7 @@ module _ (l : Layout) (c : List Statement) (well : IsWellFormed c) (good : ℕ �
   pins : (k : ℕ) (args : List Name) → map (wide_bits l c good before k) args
       ≡ map (wide_bit l good before k) (map (signal c) args)
   pins k [] = refl
-  pins k (a ∷ args) =
-      ap (λ b. b ∷ map (wide_bits l c good before k) args)
+  pins k (a ∷ args) = ap (λ b. b ∷ map (wide_bits l c good before k) args)
       (unlike_is (lane (slice_index_or (good (slot_of l k)) (signal c a) 0) (lane_in l k))
       (differs_in before (signal c a) k))
       ∙ ap (λ bs. wide_bit l good before k (signal c a) ∷ bs) (pins k args)
@@ -104,18 +94,15 @@ module _ (l : Layout) (c : List Statement) (well : IsWellFormed c) (good : ℕ �
       let bit = lane (slice_index_or (good (slot_of l k)) gate 0) (lane_in l k) in
       ap (λ bs. unlike bit (value kind bs)) (pins k args)
       ∙ (ap (unlike bit) (sym (evaluated.1 kind (map (signal c) args) k lt
-      (gate_named c name kind args gate well number there)))
-      ∙ turned (lane word k) bit)
+      (gate_named c name kind args gate well number there))) ∙ turned (lane word k) bit)
 
   here : (name : Name) (kind : Kind) (args : List Name) (k : ℕ)
       → Contains c (Gate name kind args) → signal c name ≡ gate → k < 512
       → lane new k ≡ (lane old k || (lane kept k
       && unlike (lane (slice_index_or (good (slot_of l k)) gate 0) (lane_in l k))
       (value kind (map (wide_bits l c good before k) args))))
-  here name kind args k there number lt =
-      ap (λ w. lane w k) new_is
-      ∙ (lane_or old (bit_and word kept) k
-      ∙ ap (λ b. lane old k || b) (lane_and word kept k
+  here name kind args k there number lt = ap (λ w. lane w k) new_is
+      ∙ (lane_or old (bit_and word kept) k ∙ ap (λ b. lane old k || b) (lane_and word kept k
       ∙ (swapped (lane word k) (lane kept k)
       ∙ ap (λ b. lane kept k && b) (sym (turns name kind args k there number lt)))))
 
@@ -138,7 +125,6 @@ module _ (l : Layout) (c : List Statement) (well : IsWellFormed c) (good : ℕ �
     seen = λ k lt was o on. (decided k lt).1 (o, none_is old was, on);
   }
     where
-      go : (has_word before gate ≡ true) ⊎ (has_word after gate ≡ false)
-          → (old ≢ 0) ⊎ (new ≡ 0)
+      go : (has_word before gate ≡ true) ⊎ (has_word after gate ≡ false) → (old ≢ 0) ⊎ (new ≡ 0)
       go (inl has) = inl (some_is old has)
       go (inr none) = inr (none_is new none)

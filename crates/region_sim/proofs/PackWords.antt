@@ -1,12 +1,9 @@
 -- Words of a pack: in which lanes a signal differs, and whether it does in some.
-use Rattle.std.proofs.Common.{◌≡◌, ◌≢◌, ℕ, sym, ◌∙◌, ap, Bool, true, false, not, List, refl}
-use Rattle.std.proofs.Common.{subst}
+use Rattle.std.proofs.Common.{◌≡◌, ◌≢◌, ℕ, sym, ◌∙◌, ap, Bool, true, false, not, List, refl, subst}
 use Rattle.std.specs.Prelude.{All, Contains, slice_index_or, ◌==◌}
 use Rattle.std.proofs.lemmas.Bool.{eq-eqb, eqb-true, false≢true}
-use Rattle.list_lemmas.proofs.Members.{among}
-use Rattle.list_lemmas.proofs.Places.{place_within, placed}
-use Rattle.flat_circuit.specs.Words.{lane}
-use Rattle.flat_circuit.proofs.Public.{lane_zero, index_of}
+use Rattle.list_lemmas.proofs.{Members.among, Places.{place_within, placed}}
+use Rattle.flat_circuit.{specs.Words.lane, proofs.Public.{lane_zero, index_of}}
 
 -- whether a signal differs in a lane
 abbrev pub differs_in : List ℕ → ℕ → ℕ → Bool

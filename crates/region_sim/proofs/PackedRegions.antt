@@ -1,44 +1,30 @@
 -- Several regions that are followed in one pack, and what is found of all of their classes.
-use Rattle.std.proofs.Common.{◌≡◌, ◌+◌, ◌-◌, ◌<◌, ◌≤◌, ◌⊎◌, inl, inr, ℕ}
-use Rattle.std.proofs.Common.{refl, sym, ◌∙◌, ap, subst, List, [], ◌∷◌, ◌++◌, length, arith}
-use Rattle.std.proofs.Common.{All, Bool, Option, Some, true, false, map}
+use Rattle.std.proofs.Common.{◌≡◌, ◌+◌, ◌-◌, ◌<◌, ◌≤◌, ◌⊎◌, inl, inr, ℕ, refl, sym, ◌∙◌, ap, subst}
+use Rattle.std.proofs.Common.{List, [], ◌∷◌, ◌++◌, length, arith, All, Bool, Option, Some, true}
+use Rattle.std.{proofs.Common.{false, map}, specs.Option.option_map, proofs.lemmas.Bool.cases_lt}
 use Rattle.std.specs.Prelude.{◌↔◌, Contains, bit_and, slice_get, slice_index_or}
-use Rattle.std.specs.Option.{option_map}
-use Rattle.std.proofs.lemmas.Bool.{cases_lt}
 use Rattle.std.proofs.lemmas.List.{append-nil, append_assoc, length-append}
 use Rattle.std.proofs.lemmas.Option.{get_or_from_slice_get, slice_get-get_or, slice_get-map}
 use Rattle.std.proofs.lemmas.Option.{slice_get_within}
 use Rattle.list_lemmas.proofs.Members.{Among, among, among_append, among_left, among_right}
 use Rattle.list_lemmas.proofs.Members.{contained}
-use Rattle.bench_net.specs.Statement.{Statement}
-use Rattle.bench_net.specs.Scan.{names}
-use Rattle.bench_net.specs.Circuit.{IsWellFormed}
-use Rattle.fault_model.specs.Reordered.{IsReordered, place}
-use Rattle.fault_model.specs.Solution.{Test}
+use Rattle.bench_net.specs.{Statement.Statement, Scan.names, Circuit.IsWellFormed}
+use Rattle.fault_model.specs.{Reordered.{IsReordered, place}, Solution.Test}
 use Rattle.wide_words.specs.Lanes.{IsLayout, Layout, lane_in, slot_of, slots}
-use Rattle.flat_circuit.specs.declared.block_span.BlockSpan.{BlockSpan}
-use Rattle.flat_circuit.specs.declared.origin.ListedClass.{ListedClass}
-use Rattle.region_sim.specs.declared.pack.Slot.{Slot}
-use Rattle.block_sim.specs.declared.propagation.Followed.{Followed}
-use Rattle.flat_circuit.specs.Readers.{IsObserved}
+use Rattle.flat_circuit.specs.{declared.block_span.BlockSpan.BlockSpan, Readers.IsObserved}
+use Rattle.flat_circuit.specs.{declared.origin.ListedClass.ListedClass, Words.{lane, test_of}}
 use Rattle.flat_circuit.specs.BlockSpans.{IsSpan, group_of}
-use Rattle.region_sim.specs.OpenPlaces.{AreSettled}
-use Rattle.region_sim.specs.Pack.{IsIn, TellsPack, stem_at}
-use Rattle.block_sim.specs.Parts.{Parts}
-use Rattle.region_sim.specs.RegionHits.{AreApart, AreCopied, AreFollowedAt, AreGathered}
-use Rattle.region_sim.specs.RegionHits.{AreInOrder, AreOpen, AreSlotsConcluded, AreStill, HasAdded}
+use Rattle.region_sim.specs.{declared.pack.Slot.Slot, OpenPlaces.AreSettled, Arrivals.HasArrived}
+use Rattle.region_sim.specs.{Pack.{IsIn, TellsPack, stem_at}, Goals.{HasTakenAt, HasTakenSpan}}
+use Rattle.region_sim.specs.RegionHits.{AreApart, AreCopied, AreFollowedAt, AreGathered, AreInOrder}
+use Rattle.region_sim.specs.RegionHits.{AreOpen, AreSlotsConcluded, AreStill, HasAdded}
 use Rattle.region_sim.specs.RegionHits.{HaveTakenBut, HaveTakenOpen, IsFollowedAt, IsGathered}
 use Rattle.region_sim.specs.RegionHits.{IsInSlot, IsPart, IsTakenOrFollowed}
-use Rattle.region_sim.specs.Goals.{HasTakenAt, HasTakenSpan}
-use Rattle.block_sim.specs.Flips.{DetectsFlip}
-use Rattle.region_sim.specs.Arrivals.{HasArrived}
-use Rattle.flat_circuit.specs.Words.{lane, test_of}
-use Rattle.region_sim.proofs.Arrivals.{arrived_within, followed_more}
-use Rattle.region_sim.proofs.ListParts.{get_left, get_right}
-use Rattle.region_sim.proofs.PackSlots.{lane_of_slot, placed}
+use Rattle.region_sim.proofs.{Arrivals.{arrived_within, followed_more}, RegionHits.taken_over}
+use Rattle.region_sim.proofs.{ListParts.{get_left, get_right}, PackSlots.{lane_of_slot, placed}}
 use Rattle.region_sim.proofs.RegionHits.{at_over, followed_or_not, member_at, place_of_member}
-use Rattle.region_sim.proofs.RegionHits.{taken_over}
 use Rattle.region_sim.proofs.SpanHits.{takes_span, tells_arrived}
+use Rattle.block_sim.specs.{declared.propagation.Followed.Followed, Parts.Parts, Flips.DetectsFlip}
 use Rattle.block_sim.proofs.Public.{same_flips}
 
 -- ---- classes that are followed
@@ -113,14 +99,11 @@ module _ {K : Type 0} (is_open : K → Bool) (means : (ℕ → Bool) → ℕ →
       (stem : slot.stem ≡ place job.circuit c row.stem) (within : slot.stem < length (names c))
       (begin : slot.begin ≡ length old) (end : slot.end ≡ length new)
       (some : slot.begin < slot.end → more ≡ stems ++ slot ∷ [])
-      (none : slot.end ≤ slot.begin → more ≡ stems)
-      (added : HasAdded job span row.stem old new)
+      (none : slot.end ≤ slot.begin → more ≡ stems) (added : HasAdded job span row.stem old new)
       (hidden : (new ≡ old) ⊎ (IsObserved c slot.stem → ⊥))
       (taken : HaveTakenBut is_open means job span rows new first q before now)
-      (at : AreFollowedAt rows first q new)
-      (ordered : AreInOrder new)
-      (idle : AreOpen is_open before new)
-      (still : AreStill new before now)
+      (at : AreFollowedAt rows first q new) (ordered : AreInOrder new)
+      (idle : AreOpen is_open before new) (still : AreStill new before now)
       (g : Gathered p stems old was) where
     long : length new ≡ length old + length added.0
     long = ap length added.1 ∙ length-append old added.0
@@ -139,8 +122,7 @@ module _ {K : Type 0} (is_open : K → Bool) (means : (ℕ → Bool) → ℕ →
       stem = stem;
       hidden = (within, unseen hidden);
       within = (omega (arith, up), omega (arith, end));
-      came = λ i x low high there.
-          (added.2 x (member_at added.0 (i - length old) x
+      came = λ i x low high there. (added.2 x (member_at added.0 (i - length old) x
           (sym (get_right old added.0 (i - length old))
           ∙ (ap (slice_get (old ++ added.0)) (at_place i low)
           ∙ (ap (λ l. slice_get l i) (sym added.1) ∙ there))))).1;
@@ -183,8 +165,7 @@ module _ {K : Type 0} (is_open : K → Bool) (means : (ℕ → Bool) → ℕ →
     pub gathered_more : Gathered q more new now
     gathered_more = go (cases_lt slot.begin slot.end)
       where
-        with_slot : (up : slot.begin < slot.end) → (s : Slot)
-            → Among s stems ⊎ Among s (slot ∷ [])
+        with_slot : (up : slot.begin < slot.end) → (s : Slot) → Among s stems ⊎ Among s (slot ∷ [])
             → IsGathered is_open job c span rows before first q new s
         with_slot up s (inl h) = kept s (contained stems s h)
         with_slot up s (inr (inl same)) =
@@ -236,10 +217,8 @@ pub gathered_none : {K : Type 0} (is_open : K → Bool) (means : (ℕ → Bool) 
     → AreGathered is_open means job c span rows from from stems followed kept kept
 gathered_none is_open means job c span rows from stems followed kept no_stems no_classes =
     subst (λ l. AreGathered is_open means job c span rows from from l followed kept kept)
-    (sym no_stems)
-    (subst (λ l. AreGathered is_open means job c span rows from from [] l kept kept)
-    (sym no_classes)
-    (record {
+    (sym no_stems) (subst (λ l. AreGathered is_open means job c span rows from from [] l kept kept)
+    (sym no_classes) (record {
       taken = λ k row le lt idle. absurd (omega (arith, le, lt));
       at = λ one there. (let bad = there.1 in absurd (omega (arith, bad)));
       ordered = λ i k one other lt is there.
@@ -256,8 +235,7 @@ gathered_none is_open means job c span rows from stems followed kept no_stems no
 module _ (layout : Layout) (stems : List Slot) (i : ℕ) (slot : Slot)
     (stands : slice_get stems i ≡ Some slot) where
   pub stem_is : (m : ℕ) → slot_of layout m ≡ i → stem_at layout stems m ≡ slot.stem
-  stem_is m same =
-      ap (λ n. slice_index_or (map (λ (s : Slot). s.stem) stems) n 0) same
+  stem_is m same = ap (λ n. slice_index_or (map (λ (s : Slot). s.stem) stems) n 0) same
       ∙ get_or_from_slice_get (map (λ (s : Slot). s.stem) stems) i slot.stem 0
       (slice_get-map (λ (s : Slot). s.stem) stems i
       ∙ ap (λ (o : Option Slot). option_map (λ (s : Slot). s.stem) o) stands)
@@ -299,8 +277,7 @@ module _ (layout : Layout) (stems : List Slot) (i : ℕ) (slot : Slot)
         } in
         told.clear m.0 one m.1 here (sym (part.own m.0 m.1 m.2) ∙ (ap (lane word) m.3 ∙ off))
         (none_below m.0 m.2 m.3 least)
-        (subst (DetectsFlip c (test_of tests group (lane_in layout m.0)))
-        (sym (stem_is m.0 m.2))
+        (subst (DetectsFlip c (test_of tests group (lane_in layout m.0))) (sym (stem_is m.0 m.2))
         (subst (λ j. DetectsFlip c (test_of tests group j) slot.stem) (sym m.3) d))
       where
         none_below : (m : ℕ) → slot_of layout m ≡ i → lane_in layout m ≡ k
@@ -331,8 +308,7 @@ module _ {K : Type 0} (is_open : K → Bool) (every : Bool)
     (copied : AreCopied layout (length job.tests.tests) span)
     (told : TellsPack every layout c job.tests.tests (λ slot. group_of span) stems followed wide)
     (concluded : AreSlotsConcluded every means layout span wide followed stems (length stems) mid
-    now)
-    (g : AreGathered is_open means job c span rows from to stems followed before mid) where
+    now) (g : AreGathered is_open means job c span rows from to stems followed before mid) where
   in_some_slot : (place : ℕ) → IsFollowedAt followed place
       → IsInSlot followed stems (length stems) place
   in_some_slot place h =

@@ -1,26 +1,21 @@
 -- What a simulation of regions finds out, by the places of a list of classes.
-use Rattle.std.proofs.Common.{◌≡◌, ◌≢◌, ◌+◌, ◌*◌, ◌<◌, ◌≤◌, ◌⊎◌, inl, inr, ℕ, zero, suc}
-use Rattle.std.proofs.Common.{refl, sym, ◌∙◌, ap, subst, List, [], ◌∷◌, length, arith}
-use Rattle.std.proofs.Common.{All, Bool, Some, true, false}
-use Rattle.std.specs.Prelude.{Contains, bit_and, slice_get, unwrap_or}
+use Rattle.std.proofs.Common.{◌≡◌, ◌≢◌, ◌+◌, ◌*◌, ◌<◌, ◌≤◌, ◌⊎◌, inl, inr, ℕ, zero, suc, refl, sym}
+use Rattle.std.proofs.Common.{◌∙◌, ap, subst, List, [], ◌∷◌, length, arith, All, Bool, Some, true}
+use Rattle.std.{proofs.Common.false, specs.Prelude.{Contains, bit_and, slice_get, unwrap_or}}
 use Rattle.std.proofs.lemmas.Bool.{cases_eq, cases_lt}
 use Rattle.std.proofs.lemmas.Option.{get_or_from_slice_get, slice_get-get_or, slice_get_within}
 use Rattle.list_lemmas.proofs.Members.{Among, among, contained}
-use Rattle.flat_circuit.specs.declared.origin.ListedClass.{ListedClass}
+use Rattle.flat_circuit.specs.{declared.origin.ListedClass.ListedClass, BlockSpans.group_of}
 use Rattle.flat_circuit.specs.declared.block_span.BlockSpan.{BlockSpan}
-use Rattle.flat_circuit.specs.BlockSpans.{group_of}
-use Rattle.block_sim.specs.declared.propagation.Followed.{Followed}
-use Rattle.block_sim.specs.Listed.{IsListed}
-use Rattle.block_sim.specs.Parts.{Parts}
-use Rattle.region_sim.specs.Arrivals.{HasArrived}
-use Rattle.region_sim.specs.Goals.{HasTakenAt, HaveTaken}
+use Rattle.block_sim.specs.{declared.propagation.Followed.Followed, Listed.IsListed, Parts.Parts}
+use Rattle.region_sim.specs.{Arrivals.HasArrived, Goals.{HasTakenAt, HaveTaken}}
 use Rattle.region_sim.specs.OpenPlaces.{AgreeFrom, AreNextOpen, AreSettled, AreSuccessors}
-use Rattle.region_sim.specs.OpenPlaces.{KeepsClosed}
+use Rattle.region_sim.specs.{OpenPlaces.KeepsClosed, RegionHits.IsTakenOrFollowed}
 use Rattle.region_sim.specs.RegionHits.{AreFollowedAt, AreInOrder, AreOpen, AreStill, HasTakenWord}
 use Rattle.region_sim.specs.RegionHits.{HaveStem, HaveTakenBut, HaveTakenOpen, IsFollowedAt}
-use Rattle.region_sim.specs.RegionHits.{IsTakenOrFollowed}
-use Rattle.region_sim.proofs.FollowedRows as rows_followed
 use Rattle.region_sim.proofs.OneLane.{bit_cases}
+use Rattle.region_sim.proofs.FollowedRows as rows_followed
+pub use Rattle.list_lemmas.proofs.Places.{within_place as some_at}
 
 -- ---- one row more
 module _ {K : Type 0} (is_open : K → Bool) (means : (ℕ → Bool) → ℕ → ℕ → K → Type 0) (job : Parts)
@@ -49,8 +44,7 @@ module _ {K : Type 0} (is_open : K → Bool) (means : (ℕ → Bool) → ℕ →
   pub at_more : AreFollowedAt rows from p was → AreFollowedAt rows from (p + 1) followed
   at_more before =
       rows_followed.each_more is_open means class_of place_of Came job span row p was followed old
-      now step
-      (λ (one : Followed). (from ≤ one.place) × (one.place < p + 1)
+      now step (λ (one : Followed). (from ≤ one.place) × (one.place < p + 1)
       × (r : ListedClass) × (slice_get rows one.place ≡ Some r) × (r.class ≡ one.class))
       (λ one class place came. (
         omega (arith, place, after),
@@ -58,8 +52,7 @@ module _ {K : Type 0} (is_open : K → Bool) (means : (ℕ → Bool) → ℕ →
         row,
         ap (slice_get rows) place ∙ is,
         sym class,
-      ))
-      (λ one there. let b = before one there in let lt = b.1 in
+      )) (λ one there. let b = before one there in let lt = b.1 in
       (b.0, omega (arith, lt), b.2, b.3, b.4))
 
   pub order_more : AreFollowedAt rows from p was → AreInOrder was → AreInOrder followed
@@ -73,8 +66,7 @@ module _ {K : Type 0} (is_open : K → Bool) (means : (ℕ → Bool) → ℕ →
 
   pub others_more : (first : List K)
       → ((place : ℕ) → (place < from) ⊎ (p ≤ place) → slice_get old place ≡ slice_get first place)
-      → (place : ℕ) → (place < from) ⊎ (p + 1 ≤ place)
-      → slice_get now place ≡ slice_get first place
+      → (place : ℕ) → (place < from) ⊎ (p + 1 ≤ place) → slice_get now place ≡ slice_get first place
   others_more first = rows_followed.others_more is_open means class_of place_of Came job span row p
       was followed old now step from first after
 
@@ -100,8 +92,7 @@ member_at xs i x e =
 
 pub place_of_member : {X : Type 0} (xs : List X) (x : X) → Contains xs x
     → (i : ℕ) × (slice_get xs i ≡ Some x)
-place_of_member xs x there =
-    (there.0, slice_get-get_or xs there.0 x there.1 ∙ ap Some there.2)
+place_of_member xs x there = (there.0, slice_get-get_or xs there.0 x there.1 ∙ ap Some there.2)
 
 -- the tests of the first so many of those that are followed were taken
 pub record AreTakenBelow {K : Type 0} (all : Bool) (means : (ℕ → Bool) → ℕ → ℕ → K → Type 0)
@@ -124,14 +115,12 @@ pub taken_below : {K : Type 0} (all : Bool) (means : (ℕ → Bool) → ℕ → 
 taken_below all means span seen followed n first before now one ordered at count others took was =
     record {
       count = count ∙ was.count;
-      others = λ place none.
-          others place (λ e. none n one (omega arith) at (sym e))
+      others = λ place none. others place (λ e. none n one (omega arith) at (sym e))
           ∙ was.others place (λ i x lt is e. none i x (omega (arith, lt)) is e);
       taken = λ i x lt is. go i x lt is (cases_eq i n);
     }
   where
-    go : (i : ℕ) (x : Followed) → i < n + 1 → slice_get followed i ≡ Some x
-        → (i ≡ n) ⊎ (i ≢ n)
+    go : (i : ℕ) (x : Followed) → i < n + 1 → slice_get followed i ≡ Some x → (i ≡ n) ⊎ (i ≢ n)
         → HasTakenWord all means (group_of span) (bit_and x.lanes seen) first now x.place
     go i x lt is (inl same) =
         let both : Some x ≡ Some one = sym is ∙ (ap (slice_get followed) same ∙ at) in
@@ -151,12 +140,6 @@ taken_below all means span seen followed n first before now one ordered at count
           others x.place (λ e. omega (arith, behind, e)) ∙ t.3,
           t.4,
         )
-
-pub some_at : {X : Type 0} (xs : List X) (i : ℕ) → i < length xs
-    → (x : X) × (slice_get xs i ≡ Some x)
-some_at [] i lt = absurd (omega (arith, lt))
-some_at (x ∷ xs) zero lt = (x, refl)
-some_at (x ∷ xs) (suc i) lt = some_at xs i (omega (arith, lt))
 
 -- a place is that of one of those that are followed, or of none
 pub followed_or_not : (followed : List Followed) (place : ℕ)
@@ -182,10 +165,8 @@ followed_or_not (one ∷ followed) place = go (cases_eq one.place place)
 
 -- each row stands for its class
 pub listed_at : (job : Parts) (rows : List ListedClass) (i : ℕ) (row : ListedClass)
-    → All (IsListed job) rows
-    → slice_get rows i ≡ Some row → IsListed job row
-listed_at job rows i row all e =
-    subst (IsListed job) (get_or_from_slice_get rows i row row e)
+    → All (IsListed job) rows → slice_get rows i ≡ Some row → IsListed job row
+listed_at job rows i row all e = subst (IsListed job) (get_or_from_slice_get rows i row row e)
     (all i row (slice_get_within rows i row e))
 
 -- ---- over places whose classes are settled
@@ -249,8 +230,7 @@ pub others_over : {K : Type 0} (from p q : ℕ) → p ≤ q → (now first : Lis
     → ((place : ℕ) → (place < from) ⊎ (p ≤ place) → slice_get now place ≡ slice_get first place)
     → (place : ℕ) → (place < from) ⊎ (q ≤ place) → slice_get now place ≡ slice_get first place
 others_over from p q up now first before place (inl lt) = before place (inl lt)
-others_over from p q up now first before place (inr le) =
-    before place (inr (omega (arith, le, up)))
+others_over from p q up now first before place (inr le) = before place (inr (omega (arith, le, up)))
 
 -- one row more of the stem
 pub stems_more : {K : Type 0} (is_open : K → Bool) (rows : List ListedClass) (kept : List K)
@@ -276,8 +256,7 @@ pub all_taken : {K : Type 0} (is_open : K → Bool) (means : (ℕ → Bool) → 
     → HaveTakenOpen is_open means job span rows from to before now
     → HaveTaken means job span rows from to before now
 all_taken {K} is_open means job span rows from to before now up law count keeps so place row le lt
-    at =
-    go (bit_cases (is_open one.0))
+    at = go (bit_cases (is_open one.0))
   where
     one : (x : K) × (slice_get before place ≡ Some x)
     one = some_at before place (let low = slice_get_within rows place row at in

@@ -1,24 +1,18 @@
 -- The lanes in which a complemented signal complements the stem: the lanes of the only gate that
 -- reads it, if the gate passes the change on.
-use Rattle.std.proofs.Common.{◌≡◌, ◌<◌, ◌≤◌, ℕ, refl, sym, ◌∙◌, ap, subst, Bool, true, false}
-use Rattle.std.proofs.Common.{List, [], ◌∷◌, ◌++◌, ◌⊎◌, ◌==◌, inl, inr, length, set, arith}
-use Rattle.std.proofs.Common.{eq-eqb, eqb-true}
-use Rattle.std.specs.Prelude.{Option, Some, None, bit_and, slice_index_or}
-use Rattle.std.specs.Bool.{Decides}
-use Rattle.std.proofs.lemmas.Bool.{false≢true}
+use Rattle.std.proofs.Common.{◌≡◌, ◌<◌, ◌≤◌, ℕ, refl, sym, ◌∙◌, ap, subst, Bool, true, false, List}
+use Rattle.std.proofs.Common.{[], ◌∷◌, ◌++◌, ◌⊎◌, ◌==◌, inl, inr, length, set, arith, eq-eqb}
+use Rattle.std.{proofs.Common.eqb-true, specs.Prelude.{Option, Some, None, bit_and, slice_index_or}}
+use Rattle.std.{specs.Bool.Decides, proofs.lemmas.Bool.false≢true}
 use Rattle.std.proofs.lemmas.List.{get_or-set_same, get_or-set_other, length-set}
-use Rattle.bench_net.specs.Statement.{Statement}
-use Rattle.bench_net.specs.Scan.{names}
-use Rattle.bench_net.specs.Circuit.{IsWellFormed}
-use Rattle.fault_model.specs.Fault.{Fault}
-use Rattle.fault_model.specs.Solution.{Test}
-use Rattle.flat_circuit.specs.Readers.{IsLive}
-use Rattle.flat_circuit.specs.Regions.{IsReadBy, lone_reader}
-use Rattle.block_sim.specs.Flips.{DetectsFlip, HasCome, Passes}
-use Rattle.region_sim.specs.Sensitized.{AreKnownFlips, CarriesFlip, IsPathTo, on_from}
+use Rattle.bench_net.specs.{Statement.Statement, Scan.names, Circuit.IsWellFormed}
+use Rattle.fault_model.specs.{Fault.Fault, Solution.Test}
+use Rattle.flat_circuit.specs.{Readers.IsLive, Regions.{IsReadBy, lone_reader}}
 use Rattle.flat_circuit.specs.Words.{lane, test_of, AreWords}
 use Rattle.flat_circuit.proofs.Public.{pin_law, lane_of_zero, only_lanes}
+use Rattle.block_sim.specs.Flips.{DetectsFlip, HasCome, Passes}
 use Rattle.block_sim.proofs.Public.{dead_flip, lanes_both, lanes_first, step_law}
+use Rattle.region_sim.specs.Sensitized.{AreKnownFlips, CarriesFlip, IsPathTo, on_from}
 
 -- the stem itself
 pub carried_live : (c : List Statement) (tests : List Test) (group mask stem : ℕ)
@@ -74,8 +68,7 @@ passed_nowhere c tests group s g word none k lt = (
 pub passed_where : (c : List Statement) (tests : List Test) (group s g word new : ℕ)
     → ((k : ℕ) → k < 128 → lane word k ≡ true → Decides (lane new k)
     ((lane word k ≡ true) × Passes c (test_of tests group k) s g))
-    → ((k : ℕ) → lane new k ≡ true → lane word k ≡ true)
-    → (k : ℕ) → k < 128 → Decides (lane new k)
+    → ((k : ℕ) → lane new k ≡ true → lane word k ≡ true) → (k : ℕ) → k < 128 → Decides (lane new k)
     ((lane word k ≡ true) × Passes c (test_of tests group k) s g)
 passed_where c tests group s g word new passed inside k lt = (
   λ e. (passed k lt (inside k e)).0 e,

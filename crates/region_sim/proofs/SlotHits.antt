@@ -1,18 +1,15 @@
 -- What is found of the classes of one slot after the other.
-use Rattle.std.proofs.Common.{◌≡◌, ◌+◌, ◌-◌, ◌<◌, ◌≤◌, ◌⊎◌, inl, inr, ℕ, Bool, refl, sym, ◌∙◌}
-use Rattle.std.proofs.Common.{ap, subst, List, length, arith, Some}
+use Rattle.std.proofs.Common.{◌≡◌, ◌+◌, ◌-◌, ◌<◌, ◌≤◌, ◌⊎◌, inl, inr, ℕ, Bool, refl, sym, ◌∙◌, ap}
+use Rattle.std.proofs.{Common.{subst, List, length, arith, Some}, lemmas.Bool.cases_lt}
 use Rattle.std.specs.Prelude.{bit_and, slice_get, slice_range}
-use Rattle.std.proofs.lemmas.Bool.{cases_lt}
 use Rattle.wide_words.specs.Lanes.{Layout}
-use Rattle.flat_circuit.specs.declared.block_span.BlockSpan.{BlockSpan}
-use Rattle.flat_circuit.specs.BlockSpans.{group_of}
-use Rattle.region_sim.specs.declared.pack.Slot.{Slot}
-use Rattle.block_sim.specs.declared.propagation.Followed.{Followed}
+use Rattle.flat_circuit.specs.{declared.block_span.BlockSpan.BlockSpan, BlockSpans.group_of}
+use Rattle.region_sim.specs.{declared.pack.Slot.Slot, RegionHits.IsSlotConcluded}
 use Rattle.region_sim.specs.RegionHits.{AreApart, AreConcluded, AreInOrder, AreSlotsConcluded}
 use Rattle.region_sim.specs.RegionHits.{HasTakenWord, IsFollowedAt, IsInSlot, IsPart}
-use Rattle.region_sim.specs.RegionHits.{IsSlotConcluded}
 use Rattle.region_sim.proofs.ListParts.{into_range, out_of_range}
 use Rattle.region_sim.proofs.RegionHits.{followed_or_not, member_at, place_of_member}
+use Rattle.block_sim.specs.declared.propagation.Followed.{Followed}
 
 -- a part of those that stand in order is in order
 pub order_within : (followed : List Followed) (a b : ℕ) → AreInOrder followed
@@ -117,8 +114,7 @@ module _ (layout : Layout) (span : BlockSpan) (seen : ℕ) (followed : List Foll
       (before mid after : List K) (part : IsPart layout seen n word) (ordered : AreInOrder followed)
       (apart : AreApart stems)
       (first : AreSlotsConcluded all means layout span seen followed stems n before mid)
-      (many : length after ≡ length mid)
-      (kept : (place : ℕ) → (IsFollowedAt own place → ⊥)
+      (many : length after ≡ length mid) (kept : (place : ℕ) → (IsFollowedAt own place → ⊥)
       → slice_get after place ≡ slice_get mid place)
       (took : AreConcluded all means span word own mid after) where
     pub slot_more : AreSlotsConcluded all means layout span seen followed stems (n + 1) before after

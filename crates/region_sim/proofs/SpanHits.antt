@@ -1,30 +1,21 @@
 -- The hits of a class among the tests of a span, as the lanes of a word tell them.
-use Rattle.std.proofs.Common.{◌≡◌, ◌<◌, ◌+◌, ◌*◌, ◌⊎◌, inl, inr, ℕ, Bool, true, false}
-use Rattle.std.proofs.Common.{refl, sym, ◌∙◌, ap, subst, List, [], arith}
-use Rattle.std.specs.Bool.{Decides}
-use Rattle.std.specs.Prelude.{◌↔◌, bit_and, length, unwrap_or}
-use Rattle.std.proofs.lemmas.Bool.{false≢true}
+use Rattle.std.proofs.Common.{◌≡◌, ◌<◌, ◌+◌, ◌*◌, ◌⊎◌, inl, inr, ℕ, Bool, true, false, refl, sym}
+use Rattle.std.{proofs.Common.{◌∙◌, ap, subst, List, [], arith}, specs.Bool.Decides}
+use Rattle.std.{specs.Prelude.{◌↔◌, bit_and, length, unwrap_or}, proofs.lemmas.Bool.false≢true}
 use Rattle.list_lemmas.proofs.Places.{place_within, within_place}
-use Rattle.fault_model.specs.Detection.{DetectsAt}
-use Rattle.fault_model.specs.Fault.{Fault}
+use Rattle.fault_model.specs.{Detection.DetectsAt, Fault.Fault, Solution.{Detects, Test}}
 use Rattle.bench_net.specs.Statement.{Statement}
-use Rattle.fault_model.specs.Solution.{Detects, Test}
-use Rattle.flat_circuit.specs.BlockSpans.{IsInSpan, IsSpan, group_of}
-use Rattle.flat_circuit.specs.Words.{lane, test_of}
-use Rattle.flat_circuit.specs.declared.block_span.BlockSpan.{BlockSpan}
-use Rattle.flat_circuit.proofs.Public.{index_of}
-use Rattle.block_sim.specs.Flips.{AreLanesFor, DetectsFlip}
-use Rattle.block_sim.specs.Parts.{Parts}
+use Rattle.flat_circuit.specs.{BlockSpans.{IsInSpan, IsSpan, group_of}, Words.{lane, test_of}}
+use Rattle.flat_circuit.{specs.declared.block_span.BlockSpan.BlockSpan, proofs.Public.index_of}
+use Rattle.block_sim.specs.{Flips.{AreLanesFor, DetectsFlip}, Parts.Parts}
 use Rattle.block_sim.proofs.Public.{lanes_both, lanes_first, lanes_second}
-use Rattle.region_sim.specs.Arrivals.{AreSpanLanes, HasArrived}
+use Rattle.region_sim.{specs.Arrivals.{AreSpanLanes, HasArrived}, proofs.OneLane.bit_cases}
 use Rattle.region_sim.specs.Goals.{AreHits, HasTaken, HasTakenSpan, TellHits}
-use Rattle.region_sim.proofs.OneLane.{bit_cases}
 
 -- a word that decides in which of its lanes a fault is detected has the lanes of the tests that
 -- detect it
 pub lanes_exact : (c : List Statement) (tests : List Test) (span : BlockSpan) (f : Fault)
-    (lanes word : ℕ) → AreLanesFor tests span c f lanes
-    → ((k : ℕ) → k < 128 → Decides (lane word k)
+    (lanes word : ℕ) → AreLanesFor tests span c f lanes → ((k : ℕ) → k < 128 → Decides (lane word k)
     ((lane lanes k ≡ true) × Detects c (test_of tests (group_of span) k) f))
     → (k : ℕ) → k < 128 → Decides (lane word k)
     (IsInSpan (length tests) span (128 * group_of span + k)
@@ -123,8 +114,7 @@ module _ (job : Parts) (span : BlockSpan) (class : ℕ) (is : IsSpan (length job
         ) least (bit_cases (lane word k));
   }
     where
-      lit : (k : ℕ) → k < 128 → IsHitIn r k
-          → (all ≡ true) ⊎ ((j : ℕ) → j < k → lane word j ≡ false)
+      lit : (k : ℕ) → k < 128 → IsHitIn r k → (all ≡ true) ⊎ ((j : ℕ) → j < k → lane word j ≡ false)
           → (lane word k ≡ true) ⊎ (lane word k ≡ false) → lane word k ≡ true
       lit k lt own least (inl on) = on
       lit k lt own least (inr off) = absurd (none k lt own off least)
@@ -146,12 +136,10 @@ module _ (job : Parts) (span : BlockSpan) (class : ℕ) (is : IsSpan (length job
       → Tells (bit_and word seen)
   tells_arrived stem word seen a right missed =
       let same : a.0 ≡ h.0 = ap (λ o. unwrap_or o a.0) (sym a.3 ∙ h.1) in
-      tells_span a.0 (bit_and word seen) same
-      (λ k lt on.
+      tells_span a.0 (bit_and word seen) same (λ k lt on.
       let came = lanes_first word seen k on in
       (arrives job span stem class word a k lt).1
-      (came, right k lt came (lanes_second word seen k on)))
-      (λ k lt own off least.
+      (came, right k lt came (lanes_second word seen k on))) (λ k lt own off least.
       let there = (arrives job span stem class word a k lt).0 own in
       missed k lt there.0 (unseen k off there.0) (least_of k least) there.1)
     where
@@ -171,8 +159,7 @@ module _ (job : Parts) (span : BlockSpan) (class : ℕ) (is : IsSpan (length job
 -- a word that tells them is taken
 pub takes_span : {K : Type 0} (all : Bool) (means : (ℕ → Bool) → ℕ → ℕ → K → Type 0) (job : Parts)
     (span : BlockSpan) (class word : ℕ) (old new : K)
-    → HasTaken all means (group_of span) word old new
-    → ((hits : ℕ → Bool) → AreHits job class hits
+    → HasTaken all means (group_of span) word old new → ((hits : ℕ → Bool) → AreHits job class hits
     → TellHits all hits (128 * group_of span) (64 * span.first) (64 * span.last + 64) word)
     → HasTakenSpan means job span class old new
 takes_span all means job span class word old new taken tells hits low h le was =

@@ -1,34 +1,20 @@
 -- The lanes of a unit, and what the simulation's circuit tells of the job's.
-use Rattle.std.proofs.Common.{◌≡◌, ◌<◌, ◌≤◌, ◌+◌, ◌*◌, ◌/◌, ◌%◌, ℕ, refl, sym, ◌∙◌, ap}
-use Rattle.std.proofs.Common.{subst}
-use Rattle.std.proofs.Common.{Bool, true, false, List, [], length, arith, inl, inr}
-use Rattle.std.specs.Prelude.{◌↔◌, ◌⊎◌, Option, None, bit_and, slice_index_or}
-use Rattle.std.specs.Prelude.{unwrap_or}
-use Rattle.std.specs.Bool.{Decides}
-use Rattle.std.proofs.lemmas.Bool.{false≢true}
-use Rattle.std.proofs.lemmas.Option.{slice_get-get_or}
-use Rattle.bench_net.specs.Statement.{Statement}
-use Rattle.bench_net.specs.Circuit.{IsWellFormed}
-use Rattle.fault_model.specs.Detection.{DetectsAt, LooksBack}
-use Rattle.fault_model.specs.Fault.{Fault}
-use Rattle.fault_model.specs.Reordered.{moved_fault, place}
-use Rattle.fault_model.specs.Solution.{Detects, Test}
+use Rattle.std.proofs.Common.{◌≡◌, ◌<◌, ◌≤◌, ◌+◌, ◌*◌, ◌/◌, ◌%◌, ℕ, refl, sym, ◌∙◌, ap, subst, Bool}
+use Rattle.std.{proofs.Common.{true, false, List, [], length, arith, inl, inr}, specs.Bool.Decides}
+use Rattle.std.specs.Prelude.{◌↔◌, ◌⊎◌, Option, None, bit_and, slice_index_or, unwrap_or}
+use Rattle.std.proofs.lemmas.{Bool.false≢true, Option.slice_get-get_or}
+use Rattle.bench_net.specs.{Statement.Statement, Circuit.IsWellFormed}
+use Rattle.fault_model.specs.{Detection.{DetectsAt, LooksBack}, Fault.Fault}
+use Rattle.fault_model.specs.{Reordered.{moved_fault, place}, Solution.{Detects, Test}}
 use Rattle.fault_model.proofs.Public.{detected_same}
-use Rattle.wide_words.specs.Layouts.{both_layout}
-use Rattle.wide_words.specs.Wide.{number}
-use Rattle.wide_words.specs.declared.wide.Wide.{Wide}
+use Rattle.wide_words.specs.{Layouts.both_layout, Wide.number, declared.wide.Wide.Wide}
 use Rattle.region_sim.specs.declared.unit_start.WideReach.TheVariants.{Observed}
-use Rattle.flat_circuit.specs.Arranged.{IsArranged}
-use Rattle.block_sim.specs.Flips.{DetectsFlip}
-use Rattle.block_sim.specs.Parts.{Parts}
-use Rattle.block_sim.specs.First.{IsFirstOn}
-use Rattle.region_sim.specs.Goals.{AreHits, HasTakenSpan}
-use Rattle.region_sim.specs.UnitHits.{HasTakenUnit, TellUnitHits}
-use Rattle.region_sim.specs.Units.{ArrivesInUnit, HaveCome, IsWideReached}
-use Rattle.region_sim.specs.Units.{TellsUnit, group_in, lane_test, unit_span}
-use Rattle.flat_circuit.specs.Words.{lane, test_of}
+use Rattle.region_sim.specs.{Goals.{AreHits, HasTakenSpan}, UnitHits.{HasTakenUnit, TellUnitHits}}
+use Rattle.region_sim.specs.Units.{ArrivesInUnit, HaveCome, IsWideReached, TellsUnit, group_in}
+use Rattle.region_sim.{specs.Units.{lane_test, unit_span}, proofs.OneLane.bit_cases}
+use Rattle.flat_circuit.specs.{Arranged.IsArranged, Words.{lane, test_of}}
 use Rattle.flat_circuit.proofs.Public.{lane_zero, reordered}
-use Rattle.region_sim.proofs.OneLane.{bit_cases}
+use Rattle.block_sim.specs.{Flips.DetectsFlip, Parts.Parts, First.IsFirstOn}
 use Rattle.block_sim.proofs.Public.{lanes_both, lanes_first, lanes_second, same_flips}
 
 -- the test of a lane, by its number
@@ -40,11 +26,9 @@ lane_number tests group k =
 
 module _ (c d : List Statement) (well : IsWellFormed c) (arranged : IsArranged c d)
     (tests : List Test) (group : ℕ) (full : 128 * group + 512 ≤ length tests) (f : Fault)
-    (launch : ℕ)
-    (looks : (k : ℕ) → k < 512
+    (launch : ℕ) (looks : (k : ℕ) → k < 512
     → Decides (lane launch k) (LooksBack c tests f.model f.line f.stuck (128 * group + k))) where
-  there : (k : ℕ) → k < 512 → DetectsAt c tests f (128 * group + k)
-      → (lane launch k ≡ true)
+  there : (k : ℕ) → k < 512 → DetectsAt c tests f (128 * group + k) → (lane launch k ≡ true)
       × Detects d (lane_test tests both_layout (group_in group) k) (moved_fault c d f)
   there k lt h =
       let listed : 128 * group + k < length tests = omega (arith, full, lt) in
@@ -104,8 +88,7 @@ module _ (c d : List Statement) (well : IsWellFormed c) (arranged : IsArranged c
 module _ (job : Parts) (group class : ℕ) (all : Bool) (hits : ℕ → Bool)
     (h : AreHits job class hits) where
   -- lanes that are known tell them
-  pub unit_known : (word : ℕ) → TellsUnit job group class word
-      → TellUnitHits all hits group word
+  pub unit_known : (word : ℕ) → TellsUnit job group class word → TellUnitHits all hits group word
   unit_known word told =
       let same : told.0 ≡ h.0 = ap (λ o. unwrap_or o told.0) (sym told.1 ∙ h.1) in
       let detects = λ (k : ℕ). DetectsAt job.circuit job.tests.tests told.0 (128 * group + k)
@@ -125,15 +108,12 @@ module _ (job : Parts) (group class : ℕ) (all : Bool) (hits : ℕ → Bool)
   unit_none word zero none full =
       let same : none.0 ≡ h.0 = ap (λ o. unwrap_or o none.0) (sym none.1 ∙ h.1) in
       record {
-        right = λ k lt on.
-            absurd (false≢true (sym (ap (λ w. lane w k) zero ∙ lane_zero k) ∙ on));
-        whole = λ k lt hit least. absurd (none.2 (128 * group + k)
-            (record {
-              from = omega arith;
-              to = omega (arith, lt);
-              listed = omega (arith, lt, full);
-            })
-            (subst (λ f. DetectsAt job.circuit job.tests.tests f (128 * group + k)) (sym same)
+        right = λ k lt on. absurd (false≢true (sym (ap (λ w. lane w k) zero ∙ lane_zero k) ∙ on));
+        whole = λ k lt hit least. absurd (none.2 (128 * group + k) (record {
+          from = omega arith;
+          to = omega (arith, lt);
+          listed = omega (arith, lt, full);
+        }) (subst (λ f. DetectsAt job.circuit job.tests.tests f (128 * group + k)) (sym same)
             ((h.2 (128 * group + k)).0 hit)));
       }
 
@@ -143,8 +123,7 @@ module _ (job : Parts) (group class : ℕ) (all : Bool) (hits : ℕ → Bool)
       → DetectsFlip job.circuit (test_of job.tests.tests group k) stem)
       → ((k : ℕ) → k < 512 → lane word k ≡ true → lane seen k ≡ false
       → (all ≡ true) ⊎ ((j : ℕ) → j < k → j / 128 ≡ k / 128 → lane word j ≡ true
-      → lane seen j ≡ false)
-      → ¬ DetectsFlip job.circuit (test_of job.tests.tests group k) stem)
+      → lane seen j ≡ false) → ¬ DetectsFlip job.circuit (test_of job.tests.tests group k) stem)
       → TellUnitHits all hits group (bit_and word seen)
   unit_arrived stem word seen came right missed =
       let same : came.0 ≡ h.0 = ap (λ o. unwrap_or o came.0) (sym came.1 ∙ h.1) in
@@ -191,6 +170,5 @@ pub takes_unit : {K : Type 0} (all : Bool) (means : (ℕ → Bool) → ℕ → �
 takes_unit all means job group class word old new taken tells hits low h le was =
     let begin : 128 * group ≡ 64 * (2 * group) = omega arith in
     let end : 128 * group + 512 ≡ 64 * (2 * group + 7) + 64 = omega arith in
-    subst (λ n. means hits low n new) end
-    (taken hits low (omega (arith, le)) (tells hits h)
+    subst (λ n. means hits low n new) end (taken hits low (omega (arith, le)) (tells hits h)
     (subst (λ n. means hits low n old) (sym begin) was))

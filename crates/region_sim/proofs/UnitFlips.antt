@@ -1,39 +1,25 @@
 -- What the complemented stem of a unit tells of the classes that came to it, and the gates that it
 -- makes active.
-use Rattle.std.proofs.Common.{◌≡◌, ◌≢◌, ◌<◌, ◌≤◌, ◌/◌, ◌⊎◌, inl, inr, ℕ, refl, sym, ◌∙◌}
-use Rattle.std.proofs.Common.{ap, subst, Bool, List, [], ◌∷◌, length, arith, true, false}
+use Rattle.std.proofs.Common.{◌≡◌, ◌≢◌, ◌<◌, ◌≤◌, ◌/◌, ◌⊎◌, inl, inr, ℕ, refl, sym, ◌∙◌, ap, subst}
+use Rattle.std.proofs.Common.{Bool, List, [], ◌∷◌, length, arith, true, false}
 use Rattle.std.specs.Prelude.{◌↔◌, Contains, Some, bit_and, slice_get, slice_index_or}
-use Rattle.std.proofs.lemmas.Bool.{cases_eq}
-use Rattle.std.proofs.lemmas.Option.{slice_get-get_or}
+use Rattle.std.proofs.lemmas.{Bool.cases_eq, Option.slice_get-get_or}
 use Rattle.list_lemmas.proofs.Members.{Among, among, contained}
-use Rattle.bench_net.specs.Circuit.{IsWellFormed}
-use Rattle.bench_net.specs.Scan.{names}
-use Rattle.bench_net.specs.Statement.{Statement}
+use Rattle.bench_net.specs.{Circuit.IsWellFormed, Scan.names, Statement.Statement}
 use Rattle.fault_model.specs.Reordered.{IsReordered, place}
-use Rattle.wide_words.specs.Lanes.{lane_in, slot_of}
-use Rattle.wide_words.specs.Layouts.{both_layout}
-use Rattle.wide_words.specs.Wide.{number}
-use Rattle.flat_circuit.specs.declared.block_span.BlockSpan.{BlockSpan}
-use Rattle.flat_circuit.specs.declared.origin.ListedClass.{ListedClass}
-use Rattle.region_sim.specs.declared.pack.Slot.{Slot}
-use Rattle.block_sim.specs.declared.propagation.Followed.{Followed}
-use Rattle.region_sim.specs.declared.unit_simulation.UnitClass.{UnitClass}
-use Rattle.flat_circuit.specs.Readers.{IsObserved}
-use Rattle.region_sim.specs.Goals.{HasTakenAt, HasTakenSpan}
-use Rattle.region_sim.specs.OpenPlaces.{AreSettled}
-use Rattle.region_sim.specs.Pack.{AreSlots, TellsPack, stem_at}
-use Rattle.block_sim.specs.Parts.{Parts}
-use Rattle.region_sim.specs.RegionHits.{HaveTakenOpen}
-use Rattle.block_sim.specs.Flips.{DetectsFlip}
+use Rattle.wide_words.specs.{Lanes.{lane_in, slot_of}, Layouts.both_layout, Wide.number}
+use Rattle.flat_circuit.specs.{declared.block_span.BlockSpan.BlockSpan, Readers.IsObserved}
+use Rattle.flat_circuit.specs.{declared.origin.ListedClass.ListedClass, Words.{lane, test_of}}
+use Rattle.region_sim.specs.declared.{pack.Slot.Slot, unit_simulation.UnitClass.UnitClass}
+use Rattle.region_sim.specs.{Goals.{HasTakenAt, HasTakenSpan}, OpenPlaces.AreSettled}
+use Rattle.region_sim.specs.{Pack.{AreSlots, TellsPack, stem_at}, RegionHits.HaveTakenOpen}
 use Rattle.region_sim.specs.UnitHits.{AreClassesAt, AreClassesStill, AreParted, AreUnitConcluded}
-use Rattle.region_sim.specs.UnitHits.{HasTakenUnitAt}
-use Rattle.region_sim.specs.UnitHits.{HaveArrivedInUnit, HaveTakenBeside, IsClassAt, IsPartIn}
-use Rattle.region_sim.specs.Units.{group_in, lane_test, unit_span}
-use Rattle.flat_circuit.specs.Words.{lane, test_of}
-use Rattle.region_sim.proofs.FollowedRows.{each_over}
-use Rattle.region_sim.proofs.PackedRegions.{stem_is}
-use Rattle.block_sim.proofs.Public.{same_flips}
+use Rattle.region_sim.specs.UnitHits.{HasTakenUnitAt, HaveArrivedInUnit, HaveTakenBeside, IsClassAt}
+use Rattle.region_sim.specs.{UnitHits.IsPartIn, Units.{group_in, lane_test, unit_span}}
+use Rattle.region_sim.proofs.{FollowedRows.each_over, PackedRegions.stem_is}
 use Rattle.region_sim.proofs.UnitApproaches.{lane_number, takes_unit, unit_arrived}
+use Rattle.block_sim.specs.{declared.propagation.Followed.Followed, Parts.Parts, Flips.DetectsFlip}
+use Rattle.block_sim.proofs.Public.{same_flips}
 
 -- whether a class that came to the stem is that of a place
 pub class_or_not : (classes : List UnitClass) (place : ℕ)
@@ -63,8 +49,7 @@ pub settled_taken : {K : Type 0} (is_open : K → Bool) (means : (ℕ → Bool) 
     → HaveTakenOpen is_open means job span rows from to before now
 settled_taken is_open means job span rows from to before now settled =
     each_over is_open rows before from from to (λ place row. HasTakenAt means job span row
-    before now
-    place) settled (λ place row le lt idle. absurd (omega (arith, le, lt)))
+    before now place) settled (λ place row le lt idle. absurd (omega (arith, le, lt)))
 
 -- if no class came to the stem, all is taken
 pub none_came : {K : Type 0} (is_open : K → Bool) (means : (ℕ → Bool) → ℕ → ℕ → K → Type 0)
@@ -93,8 +78,7 @@ module _ (stem : ℕ) (classes : List UnitClass) (slots : List Slot) (followed :
       let many = parted.many in
       let low : i < length slots = omega (arith, lt, many) in
       stem_is both_layout slots i (slice_index_or slots i blank)
-      (slice_get-get_or slots i blank low) k refl
-      ∙ parted.stems i blank low
+      (slice_get-get_or slots i blank low) k refl ∙ parted.stems i blank low
 
   -- they stand in a wide word, if the stem is a signal that is not observed
   pub unit_slots : (d : List Statement) → stem < length (names d) → (IsObserved d stem → ⊥)
@@ -112,8 +96,7 @@ module _ (stem : ℕ) (classes : List UnitClass) (slots : List Slot) (followed :
       (moved : stem ≡ place job.circuit d signal) (seen : ℕ) (every : Bool)
       (told : TellsPack every both_layout d job.tests.tests (group_in group) slots followed
       seen) where
-    flips : (k : ℕ) → k < 512
-        → DetectsFlip job.circuit (test_of job.tests.tests group k) signal
+    flips : (k : ℕ) → k < 512 → DetectsFlip job.circuit (test_of job.tests.tests group k) signal
         ↔ DetectsFlip d (lane_test job.tests.tests both_layout (group_in group) k)
         (stem_at both_layout slots k)
     flips k lt =
@@ -147,8 +130,7 @@ module _ (stem : ℕ) (classes : List UnitClass) (slots : List Slot) (followed :
         least_of : (part : Followed) → IsPartIn one k part
             → (every ≡ true) ⊎ ((j : ℕ) → j < k → j / 128 ≡ k / 128
             → lane (number one.lanes) j ≡ true → lane seen j ≡ false)
-            → (every ≡ true) ⊎ ((j : ℕ) → j < 512
-            → slot_of both_layout j ≡ slot_of both_layout k
+            → (every ≡ true) ⊎ ((j : ℕ) → j < 512 → slot_of both_layout j ≡ slot_of both_layout k
             → lane_in both_layout j ≤ lane_in both_layout k
             → lane part.lanes (lane_in both_layout j) ≡ true → lane seen j ≡ false)
         least_of part is (inl all) = inl all

@@ -1,14 +1,10 @@
 -- What is taken of classes on a unit, class by class and group by group.
 use Rattle.std.proofs.Common.{◌≡◌, ◌≢◌, ◌<◌, ◌≤◌, ◌+◌, ◌-◌, ◌*◌, ◌/◌, ◌%◌, ◌⊎◌, inl, inr, ℕ, Bool}
 use Rattle.std.proofs.Common.{true, false, sym, ◌∙◌, ap, subst, List, length, arith}
-use Rattle.std.specs.Prelude.{Some, bit_and, slice_get, unwrap_or}
-use Rattle.std.proofs.lemmas.Bool.{cases_eq}
-use Rattle.wide_words.specs.Lanes.{lane_in, slot_of}
-use Rattle.wide_words.specs.Layouts.{both_layout}
-use Rattle.wide_words.specs.Wide.{number}
+use Rattle.std.{specs.Prelude.{Some, bit_and, slice_get, unwrap_or}, proofs.lemmas.Bool.cases_eq}
+use Rattle.wide_words.specs.{Lanes.{lane_in, slot_of}, Layouts.both_layout, Wide.number}
 use Rattle.flat_circuit.specs.Words.{lane}
-use Rattle.region_sim.specs.declared.unit_simulation.UnitClass.{UnitClass}
-use Rattle.region_sim.specs.Goals.{TellHits}
+use Rattle.region_sim.specs.{declared.unit_simulation.UnitClass.UnitClass, Goals.TellHits}
 use Rattle.region_sim.specs.RegionHits.{HasTakenWord}
 use Rattle.region_sim.specs.UnitHits.{AreClassesInOrder, HasTakenUnitAt, TellUnitHits}
 
@@ -74,8 +70,7 @@ pub record AreGroupsTaken {K : Type 0} (all : Bool) (means : (ℕ → Bool) → 
 pub groups_more : {K : Type 0} (all : Bool) (means : (ℕ → Bool) → ℕ → ℕ → K → Type 0)
     (group wide slot place part : ℕ) (first before now : List K) → slot < 4
     → ((k : ℕ) → k < 512 → slot_of both_layout k ≡ slot
-    → lane part (lane_in both_layout k) ≡ lane wide k)
-    → length now ≡ length before
+    → lane part (lane_in both_layout k) ≡ lane wide k) → length now ≡ length before
     → ((other : ℕ) → other ≢ place → slice_get now other ≡ slice_get before other)
     → HasTakenWord all means (group + slot) part before now place
     → AreGroupsTaken all means group wide slot place first before
@@ -122,14 +117,12 @@ pub units_more : {K : Type 0} (all : Bool) (means : (ℕ → Bool) → ℕ → �
 units_more all means group seen classes n first before now one ordered at count others took was =
     record {
       count = count ∙ was.count;
-      others = λ place none.
-          others place (λ e. none n one (omega arith) at (sym e))
+      others = λ place none. others place (λ e. none n one (omega arith) at (sym e))
           ∙ was.others place (λ i x lt is e. none i x (omega (arith, lt)) is e);
       taken = λ i x lt is. go i x lt is (cases_eq i n);
     }
   where
-    go : (i : ℕ) (x : UnitClass) → i < n + 1 → slice_get classes i ≡ Some x
-        → (i ≡ n) ⊎ (i ≢ n)
+    go : (i : ℕ) (x : UnitClass) → i < n + 1 → slice_get classes i ≡ Some x → (i ≡ n) ⊎ (i ≢ n)
         → HasTakenUnitAt all means group (bit_and (number x.lanes) seen) first now x.place
     go i x lt is (inl same) =
         let both : Some x ≡ Some one = sym is ∙ (ap (slice_get classes) same ∙ at) in

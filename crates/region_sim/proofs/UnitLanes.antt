@@ -1,8 +1,7 @@
 -- Lanes of a unit.
 use Rattle.std.proofs.Common.{◌≡◌, ℕ, refl, ◌∙◌, ap, Bool, true, false, ◌&&◌}
 use Rattle.std.specs.Prelude.{bit_and}
-use Rattle.flat_circuit.specs.GateForms.{inverted_if}
-use Rattle.flat_circuit.specs.Words.{lane}
+use Rattle.flat_circuit.specs.{GateForms.inverted_if, Words.lane}
 use Rattle.flat_circuit.proofs.Public.{lane_and, unlike}
 
 and_true : (b : Bool) → (b && true) ≡ b
@@ -17,8 +16,7 @@ unlike_back false false = refl
 
 -- the lanes of a mask in which a word differs from a bit
 pub passed_to : (diff lanes k : ℕ) → lane lanes k ≡ true → (word bit : Bool)
-    → lane diff k ≡ unlike word bit
-    → inverted_if (lane (bit_and diff lanes) k) bit ≡ word
+    → lane diff k ≡ unlike word bit → inverted_if (lane (bit_and diff lanes) k) bit ≡ word
 passed_to diff lanes k on word bit is =
     ap (λ b. inverted_if b bit) (lane_and diff lanes k ∙ (ap (λ b. lane diff k && b) on
     ∙ (and_true (lane diff k) ∙ is))) ∙ unlike_back word bit

@@ -2,20 +2,13 @@
 use Rattle.std.proofs.Common.{◌≡◌, ◌<◌, ◌≤◌, ◌+◌, ◌⊎◌, ℕ, sym, ◌∙◌, ap, subst, List, [], ◌∷◌, ◌++◌}
 use Rattle.std.proofs.Common.{length, length-append, arith, inl, inr, refl, true}
 use Rattle.std.specs.Prelude.{Contains, Option, Some, slice_get, unwrap_or}
-use Rattle.std.proofs.lemmas.Bool.{false≢true}
-use Rattle.std.proofs.lemmas.Option.{slice_get_within}
-use Rattle.wide_words.specs.Lanes.{lane_in, slot_of}
-use Rattle.wide_words.specs.Layouts.{both_layout}
-use Rattle.wide_words.specs.Wide.{number}
+use Rattle.std.proofs.lemmas.{Bool.false≢true, Option.slice_get_within}
+use Rattle.wide_words.specs.{Lanes.{lane_in, slot_of}, Layouts.both_layout, Wide.number}
 use Rattle.block_sim.specs.declared.propagation.Followed.{Followed}
-use Rattle.region_sim.specs.declared.unit_simulation.UnitClass.{UnitClass}
-use Rattle.region_sim.specs.declared.pack.Slot.{Slot}
-use Rattle.region_sim.specs.Pack.{IsIn, IsWithin}
-use Rattle.region_sim.specs.UnitHits.{ArePartsAdded, IsPartIn}
-use Rattle.flat_circuit.specs.Words.{lane}
-use Rattle.flat_circuit.proofs.Public.{lane_zero, pushed_get, at_end}
-use Rattle.region_sim.proofs.RegionHits.{member_at}
-use Rattle.region_sim.proofs.ListParts.{get_left, get_right}
+use Rattle.region_sim.specs.declared.{unit_simulation.UnitClass.UnitClass, pack.Slot.Slot}
+use Rattle.region_sim.specs.{Pack.{IsIn, IsWithin}, UnitHits.{ArePartsAdded, IsPartIn}}
+use Rattle.region_sim.proofs.{RegionHits.member_at, ListParts.{get_left, get_right}}
+use Rattle.flat_circuit.{specs.Words.lane, proofs.Public.{lane_zero, pushed_get, at_end}}
 
 -- the parts of the first n classes
 pub record ArePartsOf (slot : ℕ) (classes : List UnitClass) (n : ℕ)
@@ -63,8 +56,7 @@ module _ (slot : ℕ) (classes : List UnitClass) (n : ℕ) (before now : List Fo
   }
     where
       go : (m : ℕ) (other : UnitClass) (k : ℕ) → slice_get classes m ≡ Some other → k < 512
-          → slot_of both_layout k ≡ slot → lane (number other.lanes) k ≡ true
-          → (m < n) ⊎ (m ≡ n)
+          → slot_of both_layout k ≡ slot → lane (number other.lanes) k ≡ true → (m < n) ⊎ (m ≡ n)
           → (i : ℕ) × (part : Followed) × (length before ≤ i) × (i < length now)
           × (slice_get now i ≡ Some part) × IsPartIn other k part
       go m other k is low here on (inl lt) = h.each m other k lt is low here on
@@ -101,8 +93,7 @@ module _ (slot : ℕ) (classes : List UnitClass) (n : ℕ) (before now : List Fo
     }
       where
         go : (m : ℕ) (other : UnitClass) (k : ℕ) → slice_get classes m ≡ Some other → k < 512
-            → slot_of both_layout k ≡ slot → lane (number other.lanes) k ≡ true
-            → (m < n) ⊎ (m ≡ n)
+            → slot_of both_layout k ≡ slot → lane (number other.lanes) k ≡ true → (m < n) ⊎ (m ≡ n)
             → (i : ℕ) × (x : Followed) × (length before ≤ i) × (i < length after)
             × (slice_get after i ≡ Some x) × IsPartIn other k x
         go m other k is low here on (inl lt) =

@@ -1,34 +1,25 @@
 -- The lanes of a wide word in which a complemented signal complements the stem: the lanes of the
 -- only gate that reads it, if the gate passes the change on.
 use Rattle.std.proofs.Common.{◌≡◌, ◌≢◌, ◌<◌, ◌≤◌, ◌⊎◌, ◌==◌, ◌&&◌, ℕ, refl, sym, ◌∙◌, ap, subst}
-use Rattle.std.proofs.Common.{Bool, true, false, not, List, [], ◌∷◌, suc, ◌+◌, inl, inr}
-use Rattle.std.proofs.Common.{length, map, set, arith, eq-eqb, eqb-true}
+use Rattle.std.proofs.Common.{Bool, true, false, not, List, [], ◌∷◌, suc, ◌+◌, inl, inr, length}
+use Rattle.std.proofs.{Common.{map, set, arith, eq-eqb, eqb-true}, lemmas.Bool.false≢true}
 use Rattle.std.specs.Prelude.{◌↔◌, Option, Some, None, slice_index_or, unwrap_or}
-use Rattle.std.proofs.lemmas.Bool.{false≢true}
 use Rattle.std.proofs.lemmas.List.{get_or-set_same, get_or-set_other, length-set}
-use Rattle.bench_net.specs.declared.Kind.{Kind}
-use Rattle.bench_net.specs.Statement.{Name, Statement}
+use Rattle.bench_net.specs.{declared.Kind.Kind, Statement.{Name, Statement}, Circuit.IsWellFormed}
 use Rattle.bench_net.specs.Scan.{gate_of, names, signal}
-use Rattle.bench_net.specs.Circuit.{IsWellFormed}
 use Rattle.fault_model.specs.Solution.{Test, value}
 use Rattle.patterns.specs.Least.{below, from_up}
-use Rattle.wide_words.specs.Lanes.{IsLayout, Layout, lane_in, slot_of}
-use Rattle.wide_words.specs.Wide.{number}
+use Rattle.wide_words.specs.{Lanes.{IsLayout, Layout, lane_in, slot_of}, Wide.number}
 use Rattle.wide_words.specs.declared.wide.Wide.{Wide}
-use Rattle.region_sim.specs.declared.unit_gate.Turned.TheVariants.{Signal}
-use Rattle.flat_circuit.specs.Readers.{IsLive}
-use Rattle.flat_circuit.specs.GateForms.{inverted_if}
-use Rattle.region_sim.specs.Pack.{AreRows}
-use Rattle.flat_circuit.specs.Regions.{IsReadBy, lone_reader}
-use Rattle.block_sim.specs.Flips.{DetectsFlip, Passes, complemented_at}
+use Rattle.region_sim.specs.{declared.unit_gate.Turned.TheVariants.Signal, Pack.AreRows}
 use Rattle.region_sim.specs.Units.{AreKnownInUnit, CarryFlip, lane_test, turned_bits}
-use Rattle.flat_circuit.specs.Words.{lane, lane_bits}
-use Rattle.flat_circuit.proofs.Public.{pin_law}
+use Rattle.region_sim.proofs.{PackGates.{in_group, slot_low}, PackRuns.over}
+use Rattle.flat_circuit.specs.{Readers.IsLive, GateForms.inverted_if, Words.{lane, lane_bits}}
+use Rattle.flat_circuit.{specs.Regions.{IsReadBy, lone_reader}, proofs.Public.pin_law}
 use Rattle.flat_circuit.specs.SlotWords.{copied_bit}
+use Rattle.block_sim.specs.Flips.{DetectsFlip, Passes, complemented_at}
 use Rattle.block_sim.proofs.Public.{dead_flip, passes_is, step_law}
 use Rattle.block_sim.proofs.Public.{gate_named_of_signal_equations as gate_named}
-use Rattle.region_sim.proofs.PackGates.{in_group, slot_low}
-use Rattle.region_sim.proofs.PackRuns.{over}
 
 -- the stem itself
 pub carry_live : (c : List Statement) (tests : List Test) (l : Layout) (group : ℕ → ℕ)
@@ -81,8 +72,7 @@ module _ (c : List Statement) (well : IsWellFormed c) (tests : List Test) (l : L
     (sized : IsLayout l) (group : ℕ → ℕ) (good : ℕ → List ℕ) (words : AreRows c tests l group good)
     (s g : ℕ) (h : IsReadBy c g s) (kind : Kind) (pins : List ℕ)
     (gate : gate_of c g ≡ Some (kind, pins)) (lanes k : ℕ) (lt : k < 512)
-    (on : lane lanes k ≡ true) (d : Bool)
-    (valued : inverted_if d (copied_bit l good k g)
+    (on : lane lanes k ≡ true) (d : Bool) (valued : inverted_if d (copied_bit l good k g)
     ≡ value kind (turned_bits l good (Signal s) lanes pins k)) where
   abbrev bits : Name → Bool
   bits = lane_bits c (good (slot_of l k)) (lane_in l k)
@@ -130,13 +120,11 @@ module _ (c : List Statement) (well : IsWellFormed c) (tests : List Test) (l : L
 -- a signal that only one gate reads
 pub carry_before : (c : List Statement) (tests : List Test) (l : Layout) (group : ℕ → ℕ)
     (stem s g word new : ℕ) → IsWellFormed c → lone_reader c s ≡ Some g
-    → CarryFlip c tests l group g stem word
-    → ((k : ℕ) → lane new k ≡ true → lane word k ≡ true)
+    → CarryFlip c tests l group g stem word → ((k : ℕ) → lane new k ≡ true → lane word k ≡ true)
     → ((k : ℕ) → k < 512 → lane word k ≡ true
     → Passes c (lane_test tests l group k) s g → lane new k ≡ true)
     → ((k : ℕ) → k < 512 → lane word k ≡ true → lane new k ≡ true
-    → Passes c (lane_test tests l group k) s g)
-    → CarryFlip c tests l group s stem new
+    → Passes c (lane_test tests l group k) s g) → CarryFlip c tests l group s stem new
 carry_before c tests l group stem s g word new well alone carried inside on off k lt = (
   λ d. there d,
   λ p. back p.0 p.1,

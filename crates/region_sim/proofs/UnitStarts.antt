@@ -1,44 +1,32 @@
 -- The start of a fault on wide words, lane by lane.
-use Rattle.std.proofs.Common.{◌≡◌, ◌≢◌, ◌<◌, ◌==◌, ◌&&◌, ℕ, refl, sym, ◌∙◌, ap, subst, Bool}
-use Rattle.std.proofs.Common.{true}
-use Rattle.std.proofs.Common.{false, not, List, [], ◌∷◌, suc, ◌+◌, map, length}
-use Rattle.std.proofs.Common.{arith}
-use Rattle.std.proofs.Common.{eq-eqb, eqb-true}
+use Rattle.std.proofs.Common.{◌≡◌, ◌≢◌, ◌<◌, ◌==◌, ◌&&◌, ℕ, refl, sym, ◌∙◌, ap, subst, Bool, true}
+use Rattle.std.proofs.Common.{false, not, List, [], ◌∷◌, suc, ◌+◌, map, length, arith, eq-eqb}
+use Rattle.std.{proofs.Common.eqb-true, specs.Bool.Decides, specs.List.enumerate_from}
 use Rattle.std.specs.Prelude.{Contains, Some, None, bit_and, slice_get, slice_index_or}
-use Rattle.std.specs.Bool.{Decides}
-use Rattle.std.specs.List.{enumerate_from}
 use Rattle.std.proofs.lemmas.Bool.{false≢true}
-use Rattle.bench_net.specs.declared.Kind.{Kind}
-use Rattle.bench_net.specs.Statement.{Name, Statement, Gate}
+use Rattle.bench_net.specs.{declared.Kind.Kind, Statement.{Name, Statement, Gate}}
 use Rattle.bench_net.specs.Scan.{definition, gate_of, names, signal, name_of}
 use Rattle.bench_net.specs.Circuit.{IsWellFormed}
-use Rattle.list_lemmas.proofs.Members.{contained}
-use Rattle.list_lemmas.proofs.Places.{place_within}
-use Rattle.fault_model.specs.declared.Line.{Line}
-use Rattle.fault_model.specs.declared.Line.TheVariants as line
-use Rattle.fault_model.specs.declared.Model.{Model}
+use Rattle.list_lemmas.proofs.{Members.contained, Places.place_within}
+use Rattle.fault_model.specs.{declared.Line.Line, declared.Model.Model, Fault.{Fault, faults}}
 use Rattle.fault_model.specs.Detection.{argument, name_on}
-use Rattle.fault_model.specs.Fault.{Fault, faults}
 use Rattle.fault_model.specs.Solution.{Detects, Solves, Test, pins_see, under, value}
 use Rattle.fault_model.proofs.Public.{carries, definition-signal, under_other, under_own}
+use Rattle.fault_model.specs.declared.Line.TheVariants as line
 use Rattle.patterns.specs.Least.{below, from_up}
 use Rattle.wide_words.specs.Lanes.{IsLayout, Layout, lane_in, slot_of}
 use Rattle.region_sim.specs.declared.unit_gate.Turned.TheVariants as turned
-use Rattle.region_sim.specs.declared.unit_region.WideArrival.{WideArrival}
-use Rattle.region_sim.specs.declared.unit_start.WideReach.{WideReach}
-use Rattle.region_sim.specs.declared.unit_start.WideReach.TheVariants.{Observed, Stem}
-use Rattle.flat_circuit.specs.GateForms.{inverted_if}
-use Rattle.region_sim.specs.Pack.{AreRows}
-use Rattle.block_sim.specs.Flips.{start_of}
+use Rattle.region_sim.specs.{declared.unit_region.WideArrival.WideArrival, Pack.AreRows}
+use Rattle.region_sim.specs.declared.unit_start.WideReach.{WideReach, TheVariants.{Observed, Stem}}
 use Rattle.region_sim.specs.Units.{HaveCome, CarryFlip, lane_test, turned_bits}
-use Rattle.flat_circuit.specs.Words.{lane, lane_bits}
-use Rattle.flat_circuit.proofs.Public.{gate_within, unlike}
-use Rattle.flat_circuit.specs.SlotWords.{copied_bit}
-use Rattle.block_sim.proofs.Public.{Enters, pin_enters, lanes_both}
-use Rattle.block_sim.proofs.Public.{lanes_first, lanes_second, fault_law}
-use Rattle.block_sim.proofs.Public.{gate_named_of_signal_equations as gate_named}
 use Rattle.region_sim.proofs.OneFault.{observer_reached, pin_reached, stem_reached}
 use Rattle.region_sim.proofs.PackGates.{in_group, slot_low, unlike_is}
+use Rattle.region_sim.proofs.OneLane.{kept_bit as unlike_false}
+use Rattle.flat_circuit.specs.{GateForms.inverted_if, Words.{lane, lane_bits}, SlotWords.copied_bit}
+use Rattle.flat_circuit.proofs.Public.{gate_within, unlike, right_of as masked}
+use Rattle.block_sim.specs.Flips.{start_of}
+use Rattle.block_sim.proofs.Public.{Enters, pin_enters, lanes_both, lanes_first, lanes_second}
+use Rattle.block_sim.proofs.Public.{fault_law, gate_named_of_signal_equations as gate_named}
 
 -- the signal of an end at a stem
 abbrev signal_or : WideReach → ℕ
@@ -61,10 +49,6 @@ differs_is true false m on ne = on
 differs_is false true m on ne = on
 differs_is false false m on ne = absurd (ne refl)
 
-masked : (a m : Bool) → (a && m) ≡ true → m ≡ true
-masked true m e = e
-masked false m e = absurd (false≢true e)
-
 same_off : (x b m : Bool) → (unlike x b && m) ≡ false → m ≡ true → x ≡ b
 same_off true true m e on = refl
 same_off true false m e on = absurd (false≢true (sym e ∙ on))
@@ -76,10 +60,6 @@ other_bit true true ne = absurd (ne refl)
 other_bit true false ne = refl
 other_bit false true ne = refl
 other_bit false false ne = absurd (ne refl)
-
-unlike_false : (x : Bool) → unlike x false ≡ x
-unlike_false true = refl
-unlike_false false = refl
 
 -- lists by places and elements
 by_places : {X Y : Type 0} (g : Y → ℕ) (F : ℕ → ℕ → X) (H : ℕ → Y → X) (ys : List Y)
@@ -103,8 +83,7 @@ by_places {X} {Y} g F H ys same =
         ap (F from) (ap (λ n. slice_index_or (map g ys) n 0) (sym here) ∙ sym (at 0))
         ∙ subst (λ n. F n (g y) ≡ H n y) here (alike 0 y refl) in
         ap (λ x. x ∷ map (λ i. F i (slice_index_or (map g ys) i 0))
-        (from_up (from + 1) (length (map g rest)))) first
-        ∙ ap (λ more. H from y ∷ more)
+        (from_up (from + 1) (length (map g rest)))) first ∙ ap (λ more. H from y ∷ more)
         (go (from + 1) rest
         (λ i. at (suc i) ∙ ap (λ n. slice_index_or (map g ys) n 0) (omega arith))
         (λ i z e. (let next : from + suc i ≡ from + 1 + i = omega arith in
@@ -113,8 +92,7 @@ by_places {X} {Y} g F H ys same =
 module _ (c : List Statement) (well : IsWellFormed c) (tests : List Test) (l : Layout)
     (sized : IsLayout l) (group : ℕ → ℕ) (good : ℕ → List ℕ) (rows : AreRows c tests l group good)
     (f : Fault) (n : Name) (on_name : name_on c f.line ≡ Some n) (carried : ℕ)
-    (number : carried ≡ signal c n) (excited mask : ℕ)
-    (is : (k : ℕ) → k < 512
+    (number : carried ≡ signal c n) (excited mask : ℕ) (is : (k : ℕ) → k < 512
     → lane excited k ≡ (unlike (copied_bit l good k carried) f.stuck && lane mask k)) where
   abbrev bits : ℕ → Name → Bool
   bits k = lane_bits c (good (slot_of l k)) (lane_in l k)
@@ -162,8 +140,7 @@ module _ (c : List Statement) (well : IsWellFormed c) (tests : List Test) (l : L
       (on : f.line ≡ line.Pin gate pin) (result : ℕ)
       (less : (k : ℕ) → lane result k ≡ true → lane excited k ≡ true)
       (changed : (kind : Kind) (pins : List ℕ) (k : ℕ) → gate_of c gate ≡ Some (kind, pins)
-      → k < 512 → lane excited k ≡ true
-      → inverted_if (lane result k) (copied_bit l good k gate)
+      → k < 512 → lane excited k ≡ true → inverted_if (lane result k) (copied_bit l good k gate)
       ≡ value kind (turned_bits l good (turned.Pin pin) excited pins k)) where
     module _ (e : Enters c f.line) (named : signal c e.name ≡ gate) where
       stands : Contains c (Gate e.name e.kind e.args)
@@ -186,8 +163,7 @@ module _ (c : List Statement) (well : IsWellFormed c) (tests : List Test) (l : L
       turned_see : (k : ℕ) → k < 512 → lane excited k ≡ true
           → turned_bits l good (turned.Pin pin) excited (map (signal c) e.args) k
           ≡ pins_see (Some f) (bits k) gate e.args
-      turned_see k lt ex =
-          by_places (signal c) (λ i s. inverted_if (i == pin && lane excited k)
+      turned_see k lt ex = by_places (signal c) (λ i s. inverted_if (i == pin && lane excited k)
           (copied_bit l good k s)) (λ i a. under (Some f) (line.Pin gate i) (bits k a)) e.args
           (λ i a there. by i a there (i == pin) refl)
         where
@@ -199,13 +175,10 @@ module _ (c : List Statement) (well : IsWellFormed c) (tests : List Test) (l : L
               let name : a ≡ n = same_name a (ap (slice_get e.args) (sym place) ∙ there) in
               let other = (excited_is k lt (inside k lt ex)).0 ex in
               ap (λ b. inverted_if (b && lane excited k) (bits k a)) eq
-              ∙ (ap (λ b. inverted_if b (bits k a)) ex
-              ∙ (ap (λ x. not (bits k x)) name
-              ∙ (other_bit (bits k n) f.stuck other
-              ∙ sym (under_own f (line.Pin gate i) (bits k a)
+              ∙ (ap (λ b. inverted_if b (bits k a)) ex ∙ (ap (λ x. not (bits k x)) name
+              ∙ (other_bit (bits k n) f.stuck other ∙ sym (under_own f (line.Pin gate i) (bits k a)
               (on ∙ ap (line.Pin gate) (sym place))))))
-          by i a there false eq =
-              ap (λ b. inverted_if (b && lane excited k) (bits k a)) eq
+          by i a there false eq = ap (λ b. inverted_if (b && lane excited k) (bits k a)) eq
               ∙ sym (under_other f (line.Pin gate i) (bits k a)
               (λ same. (let lines : line.Pin gate pin ≡ line.Pin gate i = sym on ∙ same in
               let place : i ≡ pin = cc in false≢true (sym eq ∙ eq-eqb i pin place))))
@@ -223,13 +196,11 @@ module _ (c : List Statement) (well : IsWellFormed c) (tests : List Test) (l : L
               let name : a ≡ n = same_name a (ap (slice_get e.args) (sym place) ∙ there) in
               ap (bits k) name ∙ (stuck ∙ sym (under_own f (line.Pin gate i) (bits k a)
               (on ∙ ap (line.Pin gate) (sym place))))
-          here_is i a there false eq =
-              sym (under_other f (line.Pin gate i) (bits k a)
+          here_is i a there false eq = sym (under_other f (line.Pin gate i) (bits k a)
               (λ same. (let lines : line.Pin gate pin ≡ line.Pin gate i = sym on ∙ same in
               let place : i ≡ pin = cc in false≢true (sym eq ∙ eq-eqb i pin place))))
 
-          go : (from : ℕ) (rest : List Name)
-              → ((i : ℕ) (a : Name) → slice_get rest i ≡ Some a
+          go : (from : ℕ) (rest : List Name) → ((i : ℕ) (a : Name) → slice_get rest i ≡ Some a
               → slice_get e.args (from + i) ≡ Some a)
               → map (λ at. under None (line.Pin gate at.0) (bits k at.1)) (enumerate_from from rest)
               ≡ map (λ at. under (Some f) (line.Pin gate at.0) (bits k at.1))
@@ -240,8 +211,7 @@ module _ (c : List Statement) (well : IsWellFormed c) (tests : List Test) (l : L
               ap (λ b. b ∷ map (λ at. under None (line.Pin gate at.0) (bits k at.1))
               (enumerate_from (from + 1) rest))
               (here_is from a (sym (ap (slice_get e.args) place) ∙ there 0 a refl) (from == pin)
-              refl)
-              ∙ ap (λ bs. under (Some f) (line.Pin gate from) (bits k a) ∷ bs)
+              refl) ∙ ap (λ bs. under (Some f) (line.Pin gate from) (bits k a) ∷ bs)
               (go (from + 1) rest (λ i b is. (let next : from + suc i ≡ from + 1 + i = omega
               arith in
               sym (ap (slice_get e.args) next) ∙ there (suc i) b is)))
@@ -249,8 +219,7 @@ module _ (c : List Statement) (well : IsWellFormed c) (tests : List Test) (l : L
       valued : (k : ℕ) → k < 512 → lane mask k ≡ true → (b : Bool) → lane excited k ≡ b
           → unlike (bits k e.name) (lane result k)
           ≡ value e.kind (pins_see (Some f) (bits k) gate e.args)
-      valued k lt asked true ex =
-          unlike_is (bits k e.name) (lane result k)
+      valued k lt asked true ex = unlike_is (bits k e.name) (lane result k)
           ∙ (ap (λ s. inverted_if (lane result k) (copied_bit l good k s)) named
           ∙ (changed e.kind (map (signal c) e.args) k gate_is lt ex
           ∙ ap (value e.kind) (turned_see k lt ex)))
@@ -258,10 +227,8 @@ module _ (c : List Statement) (well : IsWellFormed c) (tests : List Test) (l : L
           let none : lane result k ≡ false = nothing (lane result k) refl in
           let stuck : bits k n ≡ f.stuck = sym (here k)
           ∙ same_off (copied_bit l good k carried) f.stuck (lane mask k) (sym (is k lt) ∙ off) asked
-          in
-          ap (unlike (bits k e.name)) none
-          ∙ (unlike_false (bits k e.name)
-          ∙ ((solves k lt).gate e.name e.kind e.args stands
+          in ap (unlike (bits k e.name)) none
+          ∙ (unlike_false (bits k e.name) ∙ ((solves k lt).gate e.name e.kind e.args stands
           ∙ (ap (λ g. value e.kind (pins_see None (bits k) g e.args)) named
           ∙ ap (value e.kind) (plain_see k stuck))))
         where
@@ -306,8 +273,7 @@ pub start_within : (m : Model) (c : List Statement) → IsWellFormed c → (f : 
     → Contains (faults m c) f → (s : ℕ) → start_of f.line ≡ Some s → s < length (names c)
 start_within m c well f at s from = let n = carries m c f well at in go n.0 f.line n.1 from
   where
-    go : (n : Name) (l : Line) → name_on c l ≡ Some n → start_of l ≡ Some s
-        → s < length (names c)
+    go : (n : Name) (l : Line) → name_on c l ≡ Some n → start_of l ≡ Some s → s < length (names c)
     go n (line.Stem x) on e =
         let same : x ≡ s = cc in subst (λ y. y < length (names c)) same
         (place_within (names c) x n on)

@@ -51,8 +51,8 @@ pub trait Goal {
         → high ≤ more → ((t : ℕ) → high ≤ t → t < more → hits t ≡ false)
         → means goal hits low high kept → means goal hits low more kept };
 
-    /// Returns how a run of a list of all kinds of classes takes its first 512 tests. It changes the
-    /// time that the run needs, and nothing else.
+    /// Returns how a run of a list of all kinds of classes takes its first 512 tests. It changes
+    /// the time that the run needs, and nothing else.
     fn first_unit(&self) -> FirstUnit;
 
     /// Returns what is kept of no test.

@@ -1,12 +1,10 @@
 -- The names of flip-flop cells.
 use Rattle.std.proofs.Common.{◌≡◌, ◌<◌, ℕ, zero, suc, refl, ap, List, [], ◌∷◌, length, arith, inl}
-use Rattle.std.proofs.Common.{inr, map}
-use Rattle.std.specs.Prelude.{Some, None, slice_get, slice_index_or}
-use Rattle.bench_net.specs.declared.ScanCell.{ScanCell}
+use Rattle.std.{proofs.Common.{inr, map}, specs.Prelude.{Some, None, slice_get, slice_index_or}}
+use Rattle.bench_net.specs.{declared.ScanCell.ScanCell, Scan.{names, cells, signal, name_of}}
 use Rattle.bench_net.specs.Statement.{Name, Statement, Input, Output, Gate, Dff}
-use Rattle.bench_net.specs.Scan.{names, cells, signal, name_of}
-use Rattle.list_lemmas.proofs.Members.{Among, contained}
 use Rattle.bench_net.proofs.Public.{name_of-signal}
+use Rattle.list_lemmas.proofs.Members.{Among, contained}
 
 -- the element of a list of stored cells at the place at which the cells of the circuit have q
 pub cell_at : (cs : List (Name × Name)) (rs : List ScanCell) (f : Name → ℕ) (i : ℕ) (d : ScanCell)

@@ -1,20 +1,15 @@
 -- The classes of a circuit: there is one, and its faults share their first test.
 use Rattle.std.proofs.Common.{◌≡◌, ◌<◌, ◌+◌, ◌∙◌, ℕ, List, length, map, take, get_or, ap, sym}
-use Rattle.std.proofs.Common.{arith, true, false}
+use Rattle.std.{proofs.Common.{arith, true, false}, specs.Prelude.{slice_get, unwrap_or}}
 use Rattle.std.specs.Prelude.{Contains, Option, Some, None, count_by, is_some, option_map}
-use Rattle.std.specs.Prelude.{slice_get, unwrap_or}
 use Rattle.std.proofs.lemmas.List.{get_or-map, length-map}
 use Rattle.std.proofs.lemmas.List.Sums.{count_by_more_no, count_by_more_yes}
 use Rattle.std.proofs.lemmas.Option.{get_or_from_slice_get, slice_get-get_or, slice_get-map}
 use Rattle.list_lemmas.proofs.Places.{from_mapped, place_within, within_place}
-use Rattle.bench_net.specs.Statement.{Statement}
-use Rattle.bench_net.specs.Circuit.{IsCircuit}
-use Rattle.fault_model.specs.declared.Model.{Model}
-use Rattle.fault_model.specs.Fault.{Fault, faults}
+use Rattle.bench_net.specs.{Statement.Statement, Circuit.IsCircuit}
+use Rattle.fault_model.specs.{declared.Model.Model, Fault.{Fault, faults}, Solution.Test}
 use Rattle.fault_model.specs.Collapse.{AreClassesOf, Collapsed, IsClassOf, representatives}
-use Rattle.fault_model.specs.Solution.{Test}
-use Rattle.fault_model.specs.Detection.{DetectsAt}
-use Rattle.fault_model.proofs.Public.{classes_detected_same, own_class}
+use Rattle.fault_model.{specs.Detection.DetectsAt, proofs.Public.{classes_detected_same, own_class}}
 use Rattle.block_sim.specs.First.{IsFirst}
 use Rattle.workers.specs.Verdict.{AreFirsts}
 use Rattle.report.specs.Report.{class_firsts, first_at}

@@ -1,17 +1,11 @@
 -- The curve of a run, test by test.
 use Rattle.std.proofs.Common.{◌≡◌, ◌<◌, ◌≤◌, ◌+◌, ◌∙◌, ℕ, zero, suc, Bool, true, false, List, []}
 use Rattle.std.proofs.Common.{◌∷◌, ◌++◌, length, map, take, ap, sym, refl, arith, add-one}
-use Rattle.std.proofs.Common.{append-nil}
-use Rattle.std.proofs.Math.Bool.{cond}
-use Rattle.std.specs.Prelude.{◌||◌, Option, Some, None, count_by, filter, nat_lt}
-use Rattle.std.specs.List.{list_any}
-use Rattle.std.proofs.lemmas.Bool.Decides.{nat_tests}
-use Rattle.std.proofs.lemmas.List.{map-append}
-use Rattle.std.proofs.lemmas.List.Elements.{filter-append}
+use Rattle.std.{proofs.Common.append-nil, proofs.Math.Bool.cond, specs.List.list_any}
+use Rattle.std.specs.Prelude.{◌||◌, Option, Some, None, count_by, filter, nat_lt, slice_get}
+use Rattle.std.proofs.lemmas.{Bool.Decides.nat_tests, List.map-append, List.Elements.filter-append}
 use Rattle.std.proofs.lemmas.List.Sums.{count_by-le-length, sum_by-cons, sum_by_more}
-use Rattle.std.proofs.lemmas.Option.{get_or_from_slice_get}
-use Rattle.std.specs.Prelude.{slice_get}
-use Rattle.std.proofs.Math.Seq.{take-append_seam}
+use Rattle.std.proofs.{lemmas.Option.get_or_from_slice_get, Math.Seq.take-append_seam}
 use Rattle.list_lemmas.proofs.Places.{place_within}
 use Rattle.patterns.specs.Least.{below, from_up}
 use Rattle.compaction.specs.Compaction.{finds, is_first}
@@ -46,15 +40,14 @@ none_below (Some first) = grind (arith, nat_tests)
 pub below_more : (firsts : List (Option ℕ)) (t : ℕ)
     → found_below firsts (t + 1) ≡ found_below firsts t + news_at firsts t
 below_more [] t = refl
-below_more (x ∷ xs) t =
-    omega (
-      arith,
-      below_more xs t,
-      one_more t x,
-      count_cons (is_below (t + 1)) x xs,
-      count_cons (is_below t) x xs,
-      count_cons (is_first t) x xs,
-    )
+below_more (x ∷ xs) t = omega (
+  arith,
+  below_more xs t,
+  one_more t x,
+  count_cons (is_below (t + 1)) x xs,
+  count_cons (is_below t) x xs,
+  count_cons (is_first t) x xs,
+)
 
 pub found_by_is : (firsts : List (Option ℕ)) (t : ℕ)
     → found_by firsts t ≡ found_below firsts (t + 1)
@@ -113,8 +106,7 @@ tests_more t = ap (from_up 0) (add-one t)
 -- the points of one test more
 curve_last : (firsts : List (Option ℕ)) (t : ℕ) → curve (t + 1) firsts ≡ curve t firsts
     ++ map (point_at firsts) (filter (finds firsts) (t ∷ []))
-curve_last firsts t =
-    ap (λ l. map (point_at firsts) (filter (finds firsts) l)) (tests_more t)
+curve_last firsts t = ap (λ l. map (point_at firsts) (filter (finds firsts) l)) (tests_more t)
     ∙ (ap (λ l. map (point_at firsts) l) (filter-append (finds firsts) (below t) (t ∷ []))
     ∙ map-append (point_at firsts) (filter (finds firsts) (below t))
     (filter (finds firsts) (t ∷ [])))
@@ -133,8 +125,7 @@ pub point_is : (firsts : List (Option ℕ)) (t gained detected : ℕ) → gained
     → point_at firsts t ≡ record { test = t; gained = gained; detected = detected }
 point_is firsts t gained detected g e =
     ap (λ n. record { test = t; gained = news_at firsts t; detected = n }) (found_by_is firsts t
-    ∙ sym e)
-    ∙ ap (λ n. record { test = t; gained = n; detected = detected }) (sym g)
+    ∙ sym e) ∙ ap (λ n. record { test = t; gained = n; detected = detected }) (sym g)
 
 -- the step of the count of a test
 pub news_more : (firsts : List (Option ℕ)) (t i : ℕ) (first : Option ℕ)

@@ -2,17 +2,14 @@
 use Rattle.std.proofs.Common.{◌≡◌, ◌<◌, ℕ, refl, sym, subst, List, [], ◌∷◌, length, inl, inr}
 use Rattle.std.proofs.lemmas.List.{length-map}
 use Rattle.std.specs.Prelude.{⊤, Contains, Some, IfSome, slice_get, map}
-use Rattle.bench_net.specs.declared.Sink.{Sink}
-use Rattle.bench_net.specs.declared.Sink.TheVariants as sink
+use Rattle.bench_net.specs.{declared.Sink.Sink, Scan.{names, signal, cell, cells, sinks, name_of}}
 use Rattle.bench_net.specs.Statement.{Name, Statement, Input, Output, Gate, Dff}
-use Rattle.bench_net.specs.Scan.{names, signal, cell, cells, sinks, name_of}
-use Rattle.list_lemmas.proofs.Members.{Among, contained}
 use Rattle.bench_net.proofs.Public.{name_of-signal, at_position}
+use Rattle.bench_net.specs.declared.Sink.TheVariants as sink
+use Rattle.list_lemmas.proofs.Members.{Among, contained}
 use Rattle.list_lemmas.proofs.Places.{place_within, within_place, at_place}
-use Rattle.fault_model.specs.declared.Line.{Line}
-use Rattle.fault_model.specs.declared.Line.TheVariants.{Stem, Pin, Data, Out}
-use Rattle.fault_model.specs.declared.Model.{Model}
-use Rattle.fault_model.specs.Fault.{Fault, branch, faults}
+use Rattle.fault_model.specs.declared.Line.{Line, TheVariants.{Stem, Pin, Data, Out}}
+use Rattle.fault_model.specs.{declared.Model.Model, Fault.{Fault, branch, faults}}
 use Rattle.fault_model.proofs.Public.{listed_on, listed_model, branch_among, IsOn, defined_among}
 use Rattle.fault_model.proofs.Public.{pin_reads, data_reads}
 
@@ -76,8 +73,7 @@ pub line_known : (m : Model) (c : List Statement) (fs : List Fault) (i : ℕ) (l
 line_known m c fs i l list h e =
     let at = within_place fs i h in
     let own : l ≡ at.0.line = rw (at.1) at e in
-    subst (λ x. IsLineOf c x) (sym own)
-    (listed_line m c at.0 (subst (λ xs. Contains xs at.0) list
+    subst (λ x. IsLineOf c x) (sym own) (listed_line m c at.0 (subst (λ xs. Contains xs at.0) list
     (contained fs at.0 (at_place fs i at.0 at.1))))
 
 -- and its model is the model of the list

@@ -1,27 +1,21 @@
 -- From the report of a job to the report of the files that the job was read from.
 use Rattle.std.proofs.Common.{◌≡◌, ◌∙◌, ℕ, ap, inl, inr, length, refl, subst, List}
 use Rattle.std.specs.Prelude.{Result, Ok, Err, IfErr, OnOk}
-use Rattle.bench_net.specs.Refusal.{IsAccepted}
-use Rattle.bench_net.specs.Scan.{sources}
-use Rattle.bench_net.specs.Statement.{Statement}
-use Rattle.fault_model.specs.declared.Model.{Model}
-use Rattle.fault_model.specs.Collapse.{AreClassesOf, Collapsed}
+use Rattle.bench_net.specs.{Refusal.IsAccepted, Scan.sources, Statement.Statement}
+use Rattle.fault_model.specs.{declared.Model.Model, Collapse.{AreClassesOf, Collapsed}}
 use Rattle.fault_model.specs.Fault.{FaultList, fault_list}
 use Rattle.orders.specs.Order.{HasMoves}
 use Rattle.patterns.specs.Tests.{HasTests, TestList}
 use Rattle.block_sim.specs.Parts.{Parts, piece_count}
-use Rattle.workers.specs.declared.RunFault.{RunFault}
-use Rattle.workers.specs.Verdict.{AreFirsts}
+use Rattle.workers.specs.{declared.RunFault.RunFault, Verdict.AreFirsts}
 use Rattle.byte_output.specs.Output.{Output}
-use Rattle.job_loading.specs.declared.fault.SimFault.{SimFault}
-use Rattle.job_loading.specs.declared.fault.SimFault.TheVariants as fault
+use Rattle.job_loading.{specs.declared.fault.SimFault.SimFault, proofs.Public.job_of_texts}
 use Rattle.job_loading.specs.Jobs.{IsJobOf, IsJobWithin, IsPiecesFault}
-use Rattle.job_loading.proofs.Public.{job_of_texts}
-use Rattle.report.specs.EndToEnd.{WritesOneOf, IsListingOf, IsReportOf, IsReportOfJob}
-use Rattle.report.specs.EndToEnd.{IsListFault, IsListingFault, IsListingOfCircuit}
-use Rattle.report.specs.EndToEnd.{HasSomeMoves, IsScheduleReportFault, IsScheduleTextFault}
-use Rattle.report.specs.declared.contents.Contents.{Contents}
-use Rattle.report.specs.Report.{listing, whole_report}
+use Rattle.job_loading.specs.declared.fault.SimFault.TheVariants as fault
+use Rattle.report.specs.EndToEnd.{WritesOneOf, IsListingOf, IsReportOf, IsReportOfJob, IsListFault}
+use Rattle.report.specs.EndToEnd.{IsListingFault, IsListingOfCircuit, HasSomeMoves}
+use Rattle.report.specs.EndToEnd.{IsScheduleReportFault, IsScheduleTextFault}
+use Rattle.report.specs.{declared.contents.Contents.Contents, Report.{listing, whole_report}}
 use Rattle.report.proofs.VerdictsOfRuns.{schedule_fault}
 
 -- a text of one kind is a text of another kind

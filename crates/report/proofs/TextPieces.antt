@@ -1,17 +1,12 @@
 -- The pieces of a text make the text.
 use Rattle.std.proofs.Common.{◌≡◌, ◌<◌, ◌*◌, ◌/◌, ◌%◌, ℕ, List, [], ◌++◌, append_assoc, arith, refl}
-use Rattle.std.specs.Prelude.{codes, decimal}
+use Rattle.std.specs.Prelude.{codes, decimal, Bool, true, false, IfSome, Option, Some, slice_get}
 use Rattle.std.proofs.lemmas.Fmt.{decimal_digit}
-use Rattle.std.specs.Prelude.{Bool, true, false, IfSome, Option, Some, slice_get}
 use Rattle.bench_net.specs.Statement.{Statement}
-use Rattle.fault_model.specs.declared.Line.{Line}
-use Rattle.fault_model.specs.declared.Model.{Model}
-use Rattle.fault_model.specs.Fault.{Fault, faults}
-use Rattle.report.specs.declared.contents.Lines.{Lines}
+use Rattle.fault_model.specs.{declared.Line.Line, declared.Model.Model, Fault.{Fault, faults}}
+use Rattle.report.specs.{declared.contents.Lines.Lines, Report.{has_line, wanted_line, class_line}}
 use Rattle.report.specs.Report.{line_text, defect_text, fault_text, coverage_of, first_text}
-use Rattle.report.specs.Report.{has_line, wanted_line, class_line}
-use Rattle.report.specs.declared.curve.CurvePoint.{CurvePoint}
-use Rattle.report.specs.Curve.{point_line}
+use Rattle.report.specs.{declared.curve.CurvePoint.CurvePoint, Curve.point_line}
 use Rattle.report.proofs.LinesOfFaults.{model_known}
 
 -- a fault of the list by its line, its bit and the model of the list
@@ -48,19 +43,15 @@ has_no_line lines c f first has = rw has refl
 
 -- the line of a fault with its class
 pub is_class_line : (c : List Statement) (f : Fault) (class : ℕ) (said : List ℕ)
-    → said ≡ decimal class
-    → fault_text c f ++ (codes " " ++ codes "class " ++ said ++ codes "\n")
+    → said ≡ decimal class → fault_text c f ++ (codes " " ++ codes "class " ++ said ++ codes "\n")
     ≡ class_line c (f, class)
 is_class_line c f class said is = rw is refl
 
 -- a coverage line from its numbers, given as texts
 pub coverage_text : (found total : ℕ) (counted a b whole tens ones : List ℕ) → a ≡ decimal found
-    → b ≡ decimal total
-    → whole ≡ decimal (10000 * found / total / 100)
+    → b ≡ decimal total → whole ≡ decimal (10000 * found / total / 100)
     → tens ≡ decimal (10000 * found / total % 100 / 10)
-    → ones ≡ decimal (10000 * found / total % 100 % 10)
-    → a
-    ++ (codes " of " ++ (b ++ (counted
+    → ones ≡ decimal (10000 * found / total % 100 % 10) → a ++ (codes " of " ++ (b ++ (counted
     ++ (codes " (" ++ (whole ++ (codes "." ++ (tens ++ (ones ++ (codes "%)\n" ++ [])))))))))
     ≡ coverage_of counted found total
 coverage_text found total counted a b whole tens ones e f g h i =
@@ -73,11 +64,9 @@ pub point_text : (total : ℕ) (point : CurvePoint) (a b whole tens ones : List 
     → a ≡ decimal point.test → b ≡ decimal point.detected
     → whole ≡ decimal (10000 * point.detected / total / 100)
     → tens ≡ decimal (10000 * point.detected / total % 100 / 10)
-    → ones ≡ decimal (10000 * point.detected / total % 100 % 10)
-    → a
+    → ones ≡ decimal (10000 * point.detected / total % 100 % 10) → a
     ++ (codes " " ++ (b ++ (codes " "
-    ++ (whole ++ (codes "." ++ (tens ++ (ones ++ (codes "\n" ++ []))))))))
-    ≡ point_line total point
+    ++ (whole ++ (codes "." ++ (tens ++ (ones ++ (codes "\n" ++ [])))))))) ≡ point_line total point
 point_text total point a b whole tens ones e f g h i =
     let small : 10000 * point.detected / total % 100 / 10 < 10 = omega arith in
     let last : 10000 * point.detected / total % 100 % 10 < 10 = omega arith in

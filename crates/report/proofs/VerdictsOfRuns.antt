@@ -1,31 +1,25 @@
 -- The results of a run of a job: a verdict for each fault, and, for the moves of an order file, its
 -- errors.
 use Rattle.std.proofs.Common.{◌≡◌, ◌<◌, ◌≤◌, ℕ, get_or, arith, refl, sym, ap, List, length, ◌∙◌}
-use Rattle.std.specs.Prelude.{Option, Some, nat_le, position}
-use Rattle.std.proofs.lemmas.Bool.{leb-true}
-use Rattle.std.proofs.lemmas.List.Elements.{All-get_or}
-use Rattle.std.proofs.lemmas.List.Quantifiers.{position-Some}
+use Rattle.std.{specs.Prelude.{Option, Some, nat_le, position}, proofs.lemmas.Bool.leb-true}
+use Rattle.std.proofs.lemmas.List.{Elements.All-get_or, Quantifiers.position-Some}
 use Rattle.fault_model.specs.declared.Model.{Model}
-use Rattle.orders.specs.Order.{HasMoves}
-use Rattle.orders.proofs.Public.{All-has_moves}
+use Rattle.orders.{specs.Order.HasMoves, proofs.Public.All-has_moves}
 use Rattle.block_sim.specs.Parts.{Parts, BelongTogether, piece_count}
-use Rattle.workers.specs.declared.RunFault.{RunFault}
-use Rattle.workers.specs.declared.RunFault.TheVariants as run_fault
-use Rattle.workers.specs.Refused.{IsScheduleFault}
+use Rattle.workers.specs.{declared.RunFault.RunFault, Refused.IsScheduleFault}
 use Rattle.workers.specs.Verdict.{AreFirsts, VerdictList}
+use Rattle.workers.specs.declared.RunFault.TheVariants as run_fault
 use Rattle.job_loading.specs.declared.fault.SimFault.TheVariants as fault
 use Rattle.job_loading.specs.Jobs.{IsJobWithin}
 use Rattle.region_runs.specs.RunJobs.{AreByLedgers}
-use Rattle.report.specs.declared.contents.Contents.{Contents}
+use Rattle.report.specs.{declared.contents.Contents.Contents, Report.whole_report}
 use Rattle.report.specs.EndToEnd.{IsReportByLedgers, IsReportOfJob, IsScheduleTextFault}
-use Rattle.report.specs.Report.{whole_report}
 
 -- a run's verdicts are one for each fault of the job
 pub verdicts_counted : (job : Parts) (firsts : List (Option ℕ)) → BelongTogether job
     → AreFirsts job.list.model job.circuit job.tests.tests firsts
     → length firsts ≡ length job.list.list
-verdicts_counted job firsts together are =
-    are.count ∙ sym (ap (λ l. length l.list) together.list)
+verdicts_counted job firsts together are = are.count ∙ sym (ap (λ l. length l.list) together.list)
 
 -- the whole report of a run's verdicts is a report of the job
 pub taken_of_job : (job : Parts) (contents : Contents) (firsts : List (Option ℕ))
@@ -66,8 +60,7 @@ pub schedule_fault : (m : Model) (bench text order : List ℕ) (workers : ℕ) (
     → IsScheduleFault (piece_count job) workers moves f
     → IsScheduleTextFault m bench text order workers (fault.Run f)
 schedule_fault m bench text order workers job moves (run_fault.NoSuchMove index) within has refused
-    =
-    no_other_worker order workers index moves has refused.2
+    = no_other_worker order workers index moves has refused.2
 schedule_fault m bench text order workers job moves run_fault.NoWorkers within has refused =
     (job, moves, within, has, refused)
 schedule_fault m bench text order workers job moves run_fault.TooManyWorkers within has refused =
@@ -79,5 +72,4 @@ schedule_fault m bench text order workers job moves run_fault.Memory within has 
 schedule_fault m bench text order workers job moves run_fault.Threads within has refused =
     absurd refused
 schedule_fault m bench text order workers job moves (run_fault.Unfinished class block) within has
-    refused =
-    absurd refused
+    refused = absurd refused

@@ -2,25 +2,20 @@
 use Rattle.std.specs.Prelude.{⊤, ℕ, List, Option, None, Result, IfErr}
 use Rattle.fault_model.specs.declared.Model.{Model}
 use Rattle.block_sim.specs.Parts.{Parts}
-use Rattle.workers.specs.declared.RunFault.{RunFault}
+use Rattle.workers.specs.{declared.RunFault.RunFault, Refused.IsRunFault, Stops.{Stops, no_stop}}
 use Rattle.workers.specs.declared.RunFault.TheVariants as run_fault
-use Rattle.workers.specs.Refused.{IsRunFault}
-use Rattle.workers.specs.Stops.{Stops, no_stop}
-use Rattle.region_runs.specs.Part.{stretches_of}
-use Rattle.region_runs.specs.Refused.{IsFirstsFault}
-use Rattle.job_loading.specs.declared.fault.SimFault.{SimFault}
-use Rattle.job_loading.specs.declared.fault.SimFault.TheVariants as fault
-use Rattle.job_loading.specs.declared.runs.Limit.{Limit}
-use Rattle.job_loading.specs.declared.runs.Limit.TheVariants as limit
+use Rattle.region_runs.specs.{Part.stretches_of, Refused.IsFirstsFault}
+use Rattle.job_loading.specs.declared.{fault.SimFault.SimFault, runs.Limit.Limit}
 use Rattle.job_loading.specs.Limits.{IsLimitFault, IsLimitedJob}
+use Rattle.job_loading.specs.declared.fault.SimFault.TheVariants as fault
+use Rattle.job_loading.specs.declared.runs.Limit.TheVariants as limit
 use Rattle.report.specs.EndToEnd.{IsJobReportFault, IsReportFault, IsWatchedFault}
 use Rattle.report.proofs.ReportsOfTexts.{refused_as}
 
 -- an error of a run of a job of the files
 pub run_refused : (m : Model) (bench text : List ℕ) (l : Limit) (stretches : Option ℕ)
     (workers : ℕ) (passing : Type 0) (stops : Stops) (job : Parts)
-    → IsLimitedJob m bench text l job → (f : SimFault)
-    → IsJobReportFault workers
+    → IsLimitedJob m bench text l job → (f : SimFault) → IsJobReportFault workers
     (IsFirstsFault job (stretches_of stretches job workers) workers passing stops) f
     → IsWatchedFault m bench text l stretches workers passing stops f
 run_refused m bench text l stretches workers passing stops job of (fault.Run f) h = (job, of, h)
@@ -34,8 +29,7 @@ run_refused m bench text l stretches workers passing stops job of fault.Memory h
 
 -- errors of the files before they are run
 pub read_refused : (m : Model) (bench text : List ℕ) (l : Limit) (stretches : Option ℕ)
-    (workers : ℕ) (passing : Type 0) (stops : Stops) (f : SimFault)
-    → IsLimitFault m bench text l f
+    (workers : ℕ) (passing : Type 0) (stops : Stops) (f : SimFault) → IsLimitFault m bench text l f
     → IsWatchedFault m bench text l stretches workers passing stops f
 read_refused m bench text limit.Pieces stretches workers passing stops (fault.Run f) h = absurd h
 read_refused m bench text limit.Pieces stretches workers passing stops (fault.Report f) h = absurd h

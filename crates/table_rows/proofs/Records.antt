@@ -1,9 +1,8 @@
 -- The text of a record.
-use Rattle.std.proofs.Common.{◌≡◌, ◌∙◌, ◌+◌, ◌<◌, ◌≤◌, ◌/◌, ◌%◌, ◌*◌, ◌==◌, ℕ, List, [], ◌∷◌}
-use Rattle.std.proofs.Common.{◌++◌, ap, append-nil, append_assoc, arith, false, length, max}
+use Rattle.std.proofs.Common.{◌≡◌, ◌∙◌, ◌+◌, ◌<◌, ◌≤◌, ◌/◌, ◌%◌, ◌*◌, ◌==◌, ℕ, List, [], ◌∷◌, ◌++◌}
+use Rattle.std.proofs.Common.{ap, append-nil, append_assoc, arith, false, length, max}
 use Rattle.std.proofs.Common.{length-append, refl, suc, sym, true, zero}
-use Rattle.std.proofs.lemmas.Bool.{eq-eqb, lt-ltb, ne_eqb}
-use Rattle.std.proofs.lemmas.List.Folds.{list_any-append}
+use Rattle.std.proofs.lemmas.{Bool.{eq-eqb, lt-ltb, ne_eqb}, List.Folds.list_any-append}
 use Rattle.std.specs.Prelude.{Bool, codes, decimal, if◌then◌else◌}
 use Rattle.std.specs.Fmt.{digit_glyph, digits, digits_onto}
 use Rattle.csv.specs.Writing.{default_writer, field_text, fields_text, is_blank, needs_byte}
@@ -12,18 +11,16 @@ use Rattle.table_rows.specs.Cells.{percent}
 
 -- a byte above all that call for quotes
 high_byte : (b : ℕ) → 45 ≤ b → needs_byte default_writer b ≡ false
-high_byte b low =
-    rw (
-      ne_eqb b 44 (omega (arith, low)),
-      ne_eqb b 34 (omega (arith, low)),
-      ne_eqb b 13 (omega (arith, low)),
-      ne_eqb b 10 (omega (arith, low)),
-    ) refl
+high_byte b low = rw (
+  ne_eqb b 44 (omega (arith, low)),
+  ne_eqb b 34 (omega (arith, low)),
+  ne_eqb b 13 (omega (arith, low)),
+  ne_eqb b 10 (omega (arith, low)),
+) refl
 
 plain_more : (d : ℕ) (rest : List ℕ) → d < 10 → needs_quotes default_writer rest ≡ false
     → needs_quotes default_writer (digit_glyph false d ∷ rest) ≡ false
-plain_more d rest small plain =
-    rw (lt-ltb d 10 small, high_byte (48 + d) (omega arith)) plain
+plain_more d rest small plain = rw (lt-ltb d 10 small, high_byte (48 + d) (omega arith)) plain
 
 by_case : (b : Bool) (xs ys : List ℕ) → needs_quotes default_writer xs ≡ false
     → needs_quotes default_writer ys ≡ false
@@ -54,8 +51,7 @@ plain_percent part whole =
     let units = plain_number_text (h / 100) in
     let tens = high_byte (48 + h % 100 / 10) (omega arith) in
     let ones = high_byte (48 + h % 100 % 10) (omega arith) in
-    let e : needs_quotes default_writer (percent part whole) ≡ false =
-    rw (
+    let e : needs_quotes default_writer (percent part whole) ≡ false = rw (
       list_any-append (needs_byte default_writer) (decimal (h / 100))
           (codes "." ++ (48 + h % 100 / 10) ∷ (48 + h % 100 % 10) ∷ []),
       units,

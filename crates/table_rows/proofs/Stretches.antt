@@ -1,19 +1,15 @@
 -- The texts of rows, stretch by stretch.
 use Rattle.std.proofs.Common.{◌≡◌, ◌≤◌, ◌<◌, ◌∙◌, ◌+◌, ◌-◌, ℕ, List, [], ◌∷◌, ◌++◌, ap, append-nil}
-use Rattle.std.proofs.Common.{append_assoc, take_all}
-use Rattle.std.proofs.Common.{arith, drop, drop-cons, get_or, length, map, refl, sym, subst, take}
+use Rattle.std.proofs.Common.{append_assoc, take_all, arith, drop, drop-cons, get_or, length, map}
+use Rattle.std.proofs.Common.{refl, sym, subst, take, ◌*◌, Global, Vec, suc, zero}
 use Rattle.std.proofs.lemmas.List.{append_cancel_left, drop-take, get_or-map, length-map}
-use Rattle.std.proofs.lemmas.List.{take-append-drop, take-take}
-use Rattle.std.proofs.lemmas.List.Concat.{flat_map-append}
+use Rattle.std.proofs.lemmas.List.{take-append-drop, take-take, Concat.flat_map-append}
 use Rattle.std.proofs.lemmas.List.FromFn.{get_or-enumerate_from, length-enumerate_from}
-use Rattle.std.proofs.Common.{◌*◌, Global, Vec, suc, zero}
-use Rattle.std.proofs.Math.Nat.{add-mul}
-use Rattle.std.specs.Prelude.{IfOk, Ok, Result, min}
+use Rattle.std.{proofs.Math.Nat.add-mul, specs.Prelude.{IfOk, Ok, Result, min}}
 use Rattle.std.specs.declared.alloc.AllocError.{AllocError}
 use Rattle.std.specs.List.{enumerate_from, flat_map, slice_range}
 use Rattle.threaded_lines.specs.Texts.{joined, text_between}
-use Rattle.table_rows.specs.declared.rows.Format.{Format}
-use Rattle.table_rows.specs.declared.rows.Format.TheVariants.{Csv, Json}
+use Rattle.table_rows.specs.declared.rows.Format.{Format, TheVariants.{Csv, Json}}
 use Rattle.table_rows.specs.Table.{Table, csv_row, json_row, row_at, row_texts}
 
 before_by : (ts : List (List ℕ)) (a b : ℕ) → a ≤ b
@@ -58,12 +54,10 @@ none_between ts i = let n : 0 ≡ i - i = omega arith in
 -- the text of the next row
 more_between : (ts : List (List ℕ)) (a i : ℕ) (y : List ℕ) → a ≤ i → i < length ts
     → get_or ts i y ≡ y → text_between ts a (i + 1) ≡ text_between ts a i ++ y
-more_between ts a i y le lt is =
-    both_between ts a i (i + 1) le (omega arith)
+more_between ts a i y le lt is = both_between ts a i (i + 1) le (omega arith)
     ∙ ap (λ t. text_between ts a i ++ t) (one_between ts i y lt ∙ is)
 
-pub texts_counted : (format : Format) (t : Table)
-    → length (row_texts format t) ≡ length t.rows
+pub texts_counted : (format : Format) (t : Table) → length (row_texts format t) ≡ length t.rows
 texts_counted Csv t = length-map t.rows csv_row
 texts_counted Json t = length-map (enumerate_from 0 t.rows) (json_row t.head.columns)
     ∙ length-enumerate_from 0 t.rows

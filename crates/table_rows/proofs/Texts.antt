@@ -1,15 +1,10 @@
 -- The pieces of a text make the text.
 use Rattle.std.proofs.Common.{◌≡◌, ◌∙◌, ◌<◌, ◌*◌, ◌/◌, ◌%◌, ◌+◌, ℕ, List, [], ◌∷◌, ◌++◌, ap}
 use Rattle.std.proofs.Common.{append_assoc, arith, get_or, length, map, max, refl, subst, suc, sym}
-use Rattle.std.proofs.Common.{take, zero}
-use Rattle.std.specs.Prelude.{OnOk, Result, codes, decimal, zip}
-use Rattle.std.specs.List.{flat_map}
-use Rattle.std.proofs.Common.{Bor}
-use Rattle.std.proofs.lemmas.Fmt.{decimal_digit}
-use Rattle.std.proofs.lemmas.List.{get_or-map}
+use Rattle.std.{proofs.Common.{take, zero, Bor}, specs.Prelude.{OnOk, Result, codes, decimal, zip}}
+use Rattle.std.{specs.List.flat_map, proofs.lemmas.Fmt.decimal_digit, proofs.lemmas.List.get_or-map}
 use Rattle.byte_output.proofs.Public.{flat_map_taken}
-use Rattle.table_rows.specs.Cells.{Cell, json_cell, percent}
-use Rattle.table_rows.specs.Table.{member}
+use Rattle.table_rows.specs.{Cells.{Cell, json_cell, percent}, Table.member}
 
 -- a percentage from its digits, given as texts
 pub percent_pieces : (part whole : ℕ) (units tens ones : List ℕ)
@@ -39,8 +34,7 @@ zipped (x ∷ xs) (y ∷ ys) (suc i) d l m =
 
 -- the member of the next place
 pub member_added : (keys : List (List ℕ)) (cells : List Cell) (i : ℕ) (d : List ℕ) (e : Cell)
-    → i < length keys → i < length cells
-    → flat_map member (take (i + 1) (zip keys cells))
+    → i < length keys → i < length cells → flat_map member (take (i + 1) (zip keys cells))
     ≡ flat_map member (take i (zip keys cells)) ++ (get_or keys i d ++ json_cell (get_or cells i e))
 member_added keys cells i d e l m =
     let at = zipped keys cells i (d, e) l m in
@@ -53,8 +47,7 @@ added_both old x y r s e f = f ∙ (ap (λ u. u ++ y) e ∙ append_assoc old x y
 -- three texts, added in turn
 pub added_in_turn : (old x y z r s t : List ℕ) → r ≡ old ++ x → s ≡ r ++ y → t ≡ s ++ z
     → t ≡ old ++ (x ++ (y ++ z))
-added_in_turn old x y z r s t e f g =
-    g ∙ (ap (λ u. u ++ z) (f ∙ ap (λ u. u ++ y) e)
+added_in_turn old x y z r s t e f g = g ∙ (ap (λ u. u ++ z) (f ∙ ap (λ u. u ++ y) e)
     ∙ (append_assoc (old ++ x) y z ∙ append_assoc old x (y ++ z)))
 
 -- a map of a map

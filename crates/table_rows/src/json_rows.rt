@@ -4,7 +4,8 @@ ghost use Rattle.std.specs.Prelude.{◌≡◌, ◌≤◌, ◌++◌, true, IfOk, 
 ghost use Rattle.json.specs.Print.{escape, quoted};
 ghost use Rattle.threaded_lines.specs.Texts.{text_between};
 ghost use Rattle.table_rows.specs.Cells.{cell_in, json_cell};
-ghost use Rattle.table_rows.specs.Table.{head_in, json_front, keyed_object, keys, object, row_texts};
+ghost use Rattle.table_rows.specs.Table.{head_in, json_front, keyed_object, keys, object};
+ghost use Rattle.table_rows.specs.Table.{row_texts};
 ghost use Rattle.table_rows.specs.declared.rows.Format.TheVariants as format;
 
 use crate::cell::{Cell, add_number, add_percent, add_pieces, add_separator};

@@ -1,18 +1,15 @@
 -- The cells of further columns in the form of the program.
 use Rattle.std.proofs.Common.{◌≡◌, ◌<◌, ◌∙◌, ◌++◌, [], ◌∷◌, ℕ, List, ap, arith, length, map, refl}
-use Rattle.std.proofs.Common.{subst, sym}
+use Rattle.std.proofs.{Common.{subst, sym}, lemmas.List.length-map, lemmas.List.Elements.All-weaker}
 use Rattle.std.specs.Prelude.{All, Bool, true, false, Option, Some, None}
-use Rattle.std.proofs.lemmas.List.{length-map}
 use Rattle.std.proofs.lemmas.List.Elements.{All-append, All-cons, All-head, All-nil, All-tail}
-use Rattle.std.proofs.lemmas.List.Elements.{All-weaker}
 use Rattle.fault_model.specs.Fault.{faults}
 use Rattle.block_sim.specs.Parts.{Parts}
-use Rattle.tables.specs.declared.further.Further.{Further}
-use Rattle.tables.specs.declared.further.FurtherColumns.{FurtherColumns}
+use Rattle.tables.specs.declared.further.{Further.Further, FurtherColumns.FurtherColumns}
 use Rattle.tables.specs.FurtherColumns.{AreFurtherColumns, FurtherColumn, HasClasses, HasCounts}
+use Rattle.tables.specs.FurtherColumns.{HasReasons, HaveCells, class_cells, count_cells, further_in}
+use Rattle.tables.specs.FurtherColumns.{reason_cell, reason_cells}
 use Rattle.table_rows.specs.Cells.{Number}
-use Rattle.tables.specs.FurtherColumns.{HasReasons, HaveCells, class_cells, count_cells}
-use Rattle.tables.specs.FurtherColumns.{further_in, reason_cell, reason_cells}
 
 -- a map of a map
 pub mapped_twice : {A B C : Type 0} (g : B → C) (f : A → B) (xs : List A)
@@ -23,8 +20,7 @@ mapped_twice g f (x ∷ xs) = ap (λ l. g (f x) ∷ l) (mapped_twice g f xs)
 cells_of : (count : ℕ) (fs : List Further) → HaveCells count (map further_in fs)
     → All (λ f. length (further_in f).cells ≡ count) fs
 cells_of count [] h = All-nil (λ f. length (further_in f).cells ≡ count)
-cells_of count (f ∷ fs) h =
-    All-cons (λ f. length (further_in f).cells ≡ count) f fs
+cells_of count (f ∷ fs) h = All-cons (λ f. length (further_in f).cells ≡ count) f fs
     (All-head (λ column. length column.cells ≡ count) (further_in f) (map further_in fs) h)
     (cells_of count fs
     (All-tail (λ column. length column.cells ≡ count) (further_in f) (map further_in fs) h))
@@ -33,15 +29,13 @@ cells_of count (f ∷ fs) h =
 pub cells_within : (fs : List Further) (columns : List FurtherColumn) (count i : ℕ)
     → map further_in fs ≡ columns → HaveCells count columns → i < count
     → All (λ f. i < length (further_in f).cells) fs
-cells_within fs columns count i same have lt =
-    All-weaker (λ f. length (further_in f).cells ≡ count)
+cells_within fs columns count i same have lt = All-weaker (λ f. length (further_in f).cells ≡ count)
     (λ f. i < length (further_in f).cells) (λ f e. omega (arith, e, lt)) fs
     (cells_of count fs (subst (HaveCells count) (sym same) have))
 
 one_column : (count : ℕ) (column : FurtherColumn) → length column.cells ≡ count
     → HaveCells count (column ∷ [])
-one_column count column long =
-    All-cons (λ column. length column.cells ≡ count) column [] long
+one_column count column long = All-cons (λ column. length column.cells ≡ count) column [] long
     (All-nil (λ column. length column.cells ≡ count))
 
 reasons_have : (job : Parts) (firsts : List (Option ℕ)) (wanted : Bool)
@@ -52,15 +46,13 @@ reasons_have job firsts true columns (reasons, are, is) =
     rw (is) (one_column _ (reason_cells reasons) (length-map reasons reason_cell ∙ are.count))
 
 counts_have : (job : Parts) (wanted : Option ℕ) (columns : List FurtherColumn)
-    → HasCounts job wanted columns
-    → HaveCells (length (faults job.list.model job.circuit)) columns
+    → HasCounts job wanted columns → HaveCells (length (faults job.list.model job.circuit)) columns
 counts_have job None columns none = rw (none) (All-nil _)
 counts_have job (Some most) columns (counts, are, is) =
     rw (is) (one_column _ (count_cells counts) (length-map counts Number ∙ are.count))
 
 classes_have : (job : Parts) (wanted : Bool) (columns : List FurtherColumn)
-    → HasClasses job wanted columns
-    → HaveCells (length (faults job.list.model job.circuit)) columns
+    → HasClasses job wanted columns → HaveCells (length (faults job.list.model job.circuit)) columns
 classes_have job false columns none = rw (none) (All-nil _)
 classes_have job true columns (classes, are, is) = rw (is) (one_column _
     (class_cells classes.class_of) (length-map classes.class_of Number ∙ are.count))

@@ -1,12 +1,10 @@
 -- The names of the signals that lines carry, from the results of the calls of a circuit.
 use Rattle.std.proofs.Common.{◌≡◌, ◌<◌, ℕ, zero, suc, refl, ◌∙◌, ap, List, [], ◌∷◌, length}
-use Rattle.std.proofs.lemmas.Option.{slice_get_within}
-use Rattle.std.specs.Prelude.{Option, Some, None, map, option_map, slice_get}
-use Rattle.std.specs.Prelude.{slice_index_or, unwrap_or}
-use Rattle.bench_net.specs.declared.Kind.{Kind}
+use Rattle.std.{proofs.lemmas.Option.slice_get_within, specs.Prelude.unwrap_or}
+use Rattle.std.specs.Prelude.{Option, Some, None, map, option_map, slice_get, slice_index_or}
+use Rattle.bench_net.{specs.declared.Kind.Kind, proofs.Public.definition_defines}
 use Rattle.bench_net.specs.Statement.{Name, Statement, Input, Output, Gate, Dff}
 use Rattle.bench_net.specs.Scan.{names, signal, definition, gate_line, gate_of}
-use Rattle.bench_net.proofs.Public.{definition_defines}
 use Rattle.fault_model.specs.Detection.{argument}
 pub use Rattle.block_coverage.proofs.Public.{mapped_at, q_named, signal_named, stored_at}
 

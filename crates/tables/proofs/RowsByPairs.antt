@@ -1,17 +1,13 @@
 -- The items of two lists by their places, and those of them that pass a test.
-use Rattle.std.proofs.Common.{◌≡◌, ◌<◌, ◌≤◌, ◌∙◌, ℕ, zero, suc, ◌+◌, List}
-use Rattle.std.proofs.Common.{[], ◌∷◌, ◌++◌, length, take}
-use Rattle.std.proofs.Common.{ap, append-nil, arith, get_or, map, refl, subst, sym, take_all}
-use Rattle.std.proofs.lemmas.List.{get_or-map, map-append, take_more}
-use Rattle.std.proofs.lemmas.List.Elements.{All-filter, All-from_get_or, All-get_or}
-use Rattle.std.proofs.lemmas.List.Elements.{filter-append}
+use Rattle.std.proofs.Common.{◌≡◌, ◌<◌, ◌≤◌, ◌∙◌, ℕ, zero, suc, ◌+◌, List, [], ◌∷◌, ◌++◌, length}
+use Rattle.std.proofs.Common.{take, ap, append-nil, arith, get_or, map, refl, subst, sym, take_all}
+use Rattle.std.proofs.lemmas.{List.{get_or-map, map-append, take_more}, Slice.Zip.length-zip}
+use Rattle.std.proofs.lemmas.List.Elements.{All-filter, All-from_get_or, All-get_or, filter-append}
 use Rattle.std.proofs.lemmas.List.FromFn.{get_or-enumerate_from, length-enumerate_from}
 use Rattle.std.proofs.lemmas.Option.{get_or_from_slice_get, slice_get-get_or, slice_get_within}
-use Rattle.std.proofs.lemmas.Slice.Zip.{length-zip}
+use Rattle.std.specs.{List.{enumerate_from, filter}, Prelude.{unwrap_or, zip}}
+use Rattle.std.specs.Prelude.{All, Bool, None, Option, Some, cond, false, slice_get, true}
 use Rattle.list_lemmas.proofs.Places.{within_place}
-use Rattle.std.specs.List.{enumerate_from, filter}
-use Rattle.std.specs.Prelude.{All, Bool, None, Option, Some, cond, false}
-use Rattle.std.specs.Prelude.{slice_get, true, unwrap_or, zip}
 
 zipped_at : {F X : Type 0} (fs : List F) (xs : List X) (i : ℕ) (f : F) (x : X)
     → slice_get fs i ≡ Some f → slice_get xs i ≡ Some x → slice_get (zip fs xs) i ≡ Some (f, x)
@@ -60,21 +56,18 @@ module _ {F X : Type 0} (fs : List F) (xs : List X) where
         take_more all i (i, (f, x)) lt ∙ ap (λ a. take i all ++ a ∷ [])
         (get_or_from_slice_get all i (i, (f, x)) (i, (f, x)) here) in
         ap (λ l. map (λ at. at.0) (passing l)) step
-        ∙ (ap (map (λ at. at.0)) (filter-append (λ at. test at.1.1) (take i all)
-        ((i, (f, x)) ∷ []))
+        ∙ (ap (map (λ at. at.0)) (filter-append (λ at. test at.1.1) (take i all) ((i, (f, x)) ∷ []))
         ∙ map-append (λ at. at.0) (passing (take i all)) (passing ((i, (f, x)) ∷ [])))
 
     -- the next place passes the test
     pub place_added : (i : ℕ) (f : F) (x : X) → slice_get fs i ≡ Some f → slice_get xs i ≡ Some x
-        → test x ≡ true
-        → map (λ at. at.0) (passing (take (i + 1) (enumerate_from 0 (zip fs xs))))
+        → test x ≡ true → map (λ at. at.0) (passing (take (i + 1) (enumerate_from 0 (zip fs xs))))
         ≡ map (λ at. at.0) (passing (take i (enumerate_from 0 (zip fs xs)))) ++ i ∷ []
     place_added i f x e h passes = next_at i f x e h ∙ rw (passes) refl
 
     -- it doesn't
     pub place_skipped : (i : ℕ) (f : F) (x : X) → slice_get fs i ≡ Some f → slice_get xs i ≡ Some x
-        → test x ≡ false
-        → map (λ at. at.0) (passing (take (i + 1) (enumerate_from 0 (zip fs xs))))
+        → test x ≡ false → map (λ at. at.0) (passing (take (i + 1) (enumerate_from 0 (zip fs xs))))
         ≡ map (λ at. at.0) (passing (take i (enumerate_from 0 (zip fs xs))))
     place_skipped i f x e h fails = next_at i f x e h ∙ rw (fails) (append-nil _)
 

@@ -1,29 +1,21 @@
 -- From the table of a circuit or a job to the table of the files that it was read from.
-use Rattle.std.proofs.Common.{◌≡◌, ◌∙◌, [], ℕ, List, ap, length, subst}
-use Rattle.std.specs.Prelude.{Option}
-use Rattle.bench_net.specs.Refusal.{IsAccepted}
-use Rattle.bench_net.specs.Statement.{Statement}
+use Rattle.std.{proofs.Common.{◌≡◌, ◌∙◌, [], ℕ, List, ap, length, subst}, specs.Prelude.Option}
+use Rattle.bench_net.specs.{Refusal.IsAccepted, Statement.Statement}
 use Rattle.block_sim.specs.Parts.{Parts}
-use Rattle.fault_model.specs.declared.Model.{Model}
-use Rattle.fault_model.specs.Collapse.{AreClassesOf, Collapsed}
+use Rattle.fault_model.specs.{declared.Model.Model, Collapse.{AreClassesOf, Collapsed}}
 use Rattle.fault_model.specs.Fault.{FaultList, fault_list, faults}
-use Rattle.workers.specs.Verdict.{AreFirsts}
+use Rattle.workers.specs.{Verdict.AreFirsts, declared.RunFault.RunFault, Stops.Stops}
 use Rattle.job_loading.specs.declared.fault.SimFault.{SimFault}
 use Rattle.job_loading.specs.declared.fault.SimFault.TheVariants as fault
-use Rattle.report.specs.declared.contents.Lines.{Lines}
-use Rattle.report.specs.EndToEnd.{IsListingFault}
-use Rattle.region_runs.specs.Refused.{IsFirstsFault, IsOpenFault}
-use Rattle.workers.specs.declared.RunFault.{RunFault}
-use Rattle.workers.specs.declared.RunFault.TheVariants as run_fault
-use Rattle.workers.specs.Stops.{Stops}
+use Rattle.report.specs.{declared.contents.Lines.Lines, EndToEnd.{IsListingFault, IsListFault}}
 use Rattle.report.specs.declared.contents.Lines.TheVariants.{All}
-use Rattle.table_rows.specs.Table.{table_text}
-use Rattle.table_rows.specs.declared.rows.Format.{Format}
+use Rattle.region_runs.specs.Refused.{IsFirstsFault, IsOpenFault}
+use Rattle.workers.specs.declared.RunFault.TheVariants as run_fault
+use Rattle.table_rows.specs.{Table.table_text, declared.rows.Format.Format}
 use Rattle.tables.specs.declared.further.FurtherColumns.{FurtherColumns}
 use Rattle.tables.specs.FurtherColumns.{AreFurtherColumns, FurtherColumn}
-use Rattle.report.specs.EndToEnd.{IsListFault}
-use Rattle.tables.specs.Tables.{IsClassTableOf, IsClassTableOfCircuit}
-use Rattle.tables.specs.Tables.{IsFirstTableOfJob, class_values, fault_table, first_values}
+use Rattle.tables.specs.Tables.{IsClassTableOf, IsClassTableOfCircuit, IsFirstTableOfJob}
+use Rattle.tables.specs.Tables.{class_values, fault_table, first_values}
 
 -- an error of a table is an error of a listing
 pub table_fault : (bench : List ℕ) (f : SimFault) → IsListFault f → IsListingFault bench f
@@ -37,8 +29,7 @@ table_fault bench (fault.Run f) h = absurd h
 
 -- the table of a list of faults and of their classes
 pub classes_table : (m : Model) (c : List Statement) (list : FaultList) (classes : Collapsed)
-    (format : Format) → list ≡ fault_list m c → AreClassesOf list.model c classes
-    → (bytes : List ℕ)
+    (format : Format) → list ≡ fault_list m c → AreClassesOf list.model c classes → (bytes : List ℕ)
     → bytes ≡ table_text format (fault_table c list.list
     (class_values classes.class_of (length classes.representative)) All [])
     → IsClassTableOfCircuit m c format bytes
@@ -64,8 +55,7 @@ pub firsts_table : (job : Parts) (firsts : List (Option ℕ)) (lines : Lines)
     → AreFirsts job.list.model job.circuit job.tests.tests firsts
     → AreFurtherColumns job firsts wanted further → (bytes : List ℕ)
     → bytes ≡ table_text format (fault_table job.circuit job.list.list (first_values firsts) lines
-    further)
-    → IsFirstTableOfJob job lines wanted format bytes
+    further) → IsFirstTableOfJob job lines wanted format bytes
 firsts_table job firsts lines wanted further format listed are all bytes is = (
   firsts,
   further,

@@ -1,8 +1,7 @@
 -- The pieces of a text make the text.
-use Rattle.std.proofs.Common.{◌≡◌, ◌∙◌, ◌<◌, ◌/◌, ◌%◌, ℕ, List, [], ◌++◌, ap}
-use Rattle.std.proofs.Common.{append-nil, append_assoc, arith, refl, subst}
+use Rattle.std.proofs.Common.{◌≡◌, ◌∙◌, ◌<◌, ◌/◌, ◌%◌, ℕ, List, [], ◌++◌, ap, append-nil}
+use Rattle.std.proofs.{Common.{append_assoc, arith, refl, subst}, lemmas.Fmt.decimal_digit}
 use Rattle.std.specs.Prelude.{OnOk, Option, Result, Some, codes, decimal}
-use Rattle.std.proofs.lemmas.Fmt.{decimal_digit}
 use Rattle.tables.specs.Summaries.{effort_text, inputs_of, seconds_text}
 
 -- a time in seconds, from its digits, given as texts
@@ -22,8 +21,7 @@ pub inputs_pieces : (version proved model bench tests count : List ℕ)
     → codes "{\n\"version\":\"" ++ (version ++ (codes "\",\n\"proved\":" ++ (proved
     ++ (codes ",\n\"model\":\"" ++ (model ++ (codes "\",\n\"bench_sha256\":\"" ++ (bench
     ++ (codes "\",\n\"tests_sha256\":\"" ++ (tests ++ (codes "\",\n\"tests\":" ++ (count
-    ++ [])))))))))))
-    ≡ inputs_of version proved model bench tests count
+    ++ []))))))))))) ≡ inputs_of version proved model bench tests count
 inputs_pieces version proved model bench tests count = simp append-nil
 
 regrouped : (a b c d e : List ℕ)
@@ -33,15 +31,13 @@ regrouped a b c d e = simp (append-nil, append_assoc)
 -- the number of workers, given as text, the time, and the end
 pub effort_pieces : (workers : ℕ) (milliseconds : Option ℕ) (n : List ℕ) → n ≡ decimal workers
     → (codes ",\n\"workers\":" ++ (n ++ (codes ",\n\"seconds\":" ++ [])))
-    ++ (seconds_text milliseconds ++ (codes "\n}\n" ++ []))
-    ≡ effort_text workers milliseconds
+    ++ (seconds_text milliseconds ++ (codes "\n}\n" ++ [])) ≡ effort_text workers milliseconds
 effort_pieces workers milliseconds n e =
     let begin = codes ",\n\"workers\":" in
     let middle = codes ",\n\"seconds\":" in
     let end = codes "\n}\n" in
     let seconds = seconds_text milliseconds in
-    regrouped begin n middle seconds end
-    ∙ ap (λ t. begin ++ (t ++ (middle ++ (seconds ++ end)))) e
+    regrouped begin n middle seconds end ∙ ap (λ t. begin ++ (t ++ (middle ++ (seconds ++ end)))) e
 
 -- equal texts are added in the same way
 pub added_same : {E : Type 0} (r : Result (Unit {0}) E) (old new x y : List ℕ) → x ≡ y
@@ -70,7 +66,6 @@ added_four r old s t u new a b c d e f g h =
 pub five_parts : (s t u v w a b c d e : List ℕ) → s ≡ a → t ≡ s ++ b → u ≡ t ++ c → v ≡ u ++ d
     → w ≡ v ++ e → w ≡ a ++ (b ++ (c ++ (d ++ e)))
 five_parts s t u v w a b c d e f g h i j =
-    let regroup : (((a ++ b) ++ c) ++ d) ++ e ≡ a ++ (b ++ (c ++ (d ++ e))) =
-    simp append_assoc in
+    let regroup : (((a ++ b) ++ c) ++ d) ++ e ≡ a ++ (b ++ (c ++ (d ++ e))) = simp append_assoc in
     j ∙ (ap (λ l. l ++ e) (i ∙ ap (λ l. l ++ d) (h ∙ ap (λ l. l ++ c) (g ∙ ap (λ l. l ++ b) f)))
     ∙ regroup)

@@ -15,9 +15,8 @@ use Rattle.tables.specs.declared.merged.MergedView.{MergedView}
 use Rattle.tables.specs.declared.merged.MergedView.TheVariants as merged_view
 use Rattle.tables.specs.declared.run.View.{View}
 use Rattle.tables.specs.declared.run.View.TheVariants as view
-use Rattle.tables.specs.Lists.{IsBlockTable, IsBlockTableOfJob, IsBlockingTableOfJob, IsCurveTableOfJob}
-use Rattle.tables.specs.Lists.{}
-use Rattle.tables.specs.Lists.{IsHistogramTableOfJob}
+use Rattle.tables.specs.Lists.{IsBlockTable, IsBlockTableOfJob, IsBlockingTableOfJob}
+use Rattle.tables.specs.Lists.{IsCurveTableOfJob, IsHistogramTableOfJob}
 use Rattle.tables.specs.Tables.{IsFirstTableOfJob, fault_table, first_values}
 
 -- the bytes are this table of a job

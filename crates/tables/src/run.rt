@@ -45,8 +45,8 @@ pub enum View {
     /// 0 and the number of faults that it is the first to detect. Then it has the number of faults
     /// that it and the tests before it detect, also in percent.
     Curve,
-    /// A row for each count from 0 to `most`, with the number of faults that so many tests detect.
-    /// The last row counts the faults that at least `most` tests detect.
+    /// A row for each count from 0 to `most`, with the number of faults that this many tests
+    /// detect. The last row counts the faults that at least `most` tests detect.
     Histogram {
         most: u32,
     },

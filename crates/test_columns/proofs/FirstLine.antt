@@ -1,18 +1,14 @@
 -- The first line of a text that has more than blanks.
-use Rattle.std.proofs.Common.{◌≡◌, ◌<◌, ◌+◌, ◌-◌, ◌∙◌, ◌++◌, ℕ, zero, suc, Bool, true, false}
-use Rattle.std.proofs.Common.{List, [], ◌∷◌}
-use Rattle.std.proofs.Common.{append_assoc, ap, arith, drop, filter, get_or, inl, inr, length, map}
-use Rattle.std.proofs.Common.{length-append, refl, sym, take, ◌==◌, subst}
+use Rattle.std.proofs.Common.{◌≡◌, ◌<◌, ◌+◌, ◌-◌, ◌∙◌, ◌++◌, ℕ, zero, suc, Bool, true, false, List}
+use Rattle.std.proofs.Common.{[], ◌∷◌, append_assoc, ap, arith, drop, filter, get_or, inl, inr}
+use Rattle.std.proofs.Common.{length, map, length-append, refl, sym, take, ◌==◌, subst}
 use Rattle.std.specs.Prelude.{◌≢◌, IfSome, Option, Some, None, option_and_then, slice_get}
-use Rattle.std.specs.List.{enumerate_from, slice_split}
-use Rattle.std.specs.Str.Lines.{strip_carriage_return}
-use Rattle.std.proofs.lemmas.Bool.{cases_Bool, eqb-true}
-use Rattle.std.proofs.lemmas.List.{get_or-map, length-map, map_push}
-use Rattle.std.proofs.lemmas.List.{take-append-drop, take-map, take_rest}
-use Rattle.std.proofs.lemmas.List.Elements.{filter-append}
-use denote.Ref.{Bor}
-use Rattle.std.specs.Io.{StartsWith}
+use Rattle.std.specs.{List.{enumerate_from, slice_split}, Str.Lines.strip_carriage_return}
+use Rattle.std.proofs.lemmas.{Bool.{cases_Bool, eqb-true}, List.take_rest}
+use Rattle.std.proofs.lemmas.List.{get_or-map, length-map, map_push, take-append-drop, take-map}
+use Rattle.std.{proofs.lemmas.List.Elements.filter-append, specs.Io.StartsWith}
 use Rattle.std.specs.Io.BufRead.{DropsThrough, drop_through, take_through}
+use denote.Ref.{Bor}
 use Rattle.text_lines.specs.Lines.{lines}
 use Rattle.test_columns.specs.Columns.{IsBlankLine, IsLastOfFront, columns, columns_in}
 use Rattle.test_columns.specs.Columns.{first_written, is_written, written_from}
@@ -140,8 +136,7 @@ nothing_behind (x ∷ line) e = elim (cases_Bool (feeds x)) [
 
 -- a front without a line that has more than blanks: the lines behind it are numbered on
 abbrev pub IsPassed : List ℕ → Type 0
-IsPassed front =
-    (n : ℕ) × ((rest : List ℕ) → written_from 1 (front ++ rest) ≡ written_from n rest)
+IsPassed front = (n : ℕ) × ((rest : List ℕ) → written_from 1 (front ++ rest) ≡ written_from n rest)
 
 -- a reader whose bytes are known has these left behind such a front
 abbrev pub IsBehind : Option (List ℕ) → Option (List ℕ) → List ℕ → Type 0
@@ -219,10 +214,8 @@ behind_more known left after front more line behind bytes drops split blank text
 
 -- what was read names the columns of all
 pub behind_last : (known left : Option (List ℕ)) (front more line : List ℕ)
-    → IsBehind known left front
-    → IfSome left (λ xs. more ≡ front ++ take_through 10 xs)
-    → more ≡ front ++ line → IsLastOfFront line
-    → IfSome known (λ text. columns more ≡ columns text)
+    → IsBehind known left front → IfSome left (λ xs. more ≡ front ++ take_through 10 xs)
+    → more ≡ front ++ line → IsLastOfFront line → IfSome known (λ text. columns more ≡ columns text)
 behind_last None left front more line behind bytes split last = tt
 behind_last (Some text) left front more line behind bytes split last =
     let at = behind text refl in
@@ -282,14 +275,12 @@ is_first text parts x own number count so_far below turn is none on =
     ap (λ ls. written (enumerate_from 1 ls)) (sym (lines_so_far text parts so_far)) ∙ none in
     let place : 1 + k ≡ number + 1 = omega (arith, count) in
     sym (first_at 1 (lines text) k [] long front (ap is_written here ∙ on)
-    ∙ (ap (λ n. Some (n, get_or (lines text) k [])) place
-    ∙ ap (λ l. Some (number + 1, l)) here))
+    ∙ (ap (λ n. Some (n, get_or (lines text) k [])) place ∙ ap (λ l. Some (number + 1, l)) here))
 
 pub is_none : (text : List ℕ) (parts : List (Bor (List ℕ)))
     → map (λ y. y.now) parts ≡ slice_split feeds text
     → written (enumerate_from 1 (given parts)) ≡ [] → None ≡ first_written text
-is_none text parts all none =
-    sym (ap (λ ls. slice_get (written (enumerate_from 1 ls)) 0)
+is_none text parts all none = sym (ap (λ ls. slice_get (written (enumerate_from 1 ls)) 0)
     (sym (ap (map strip_carriage_return) all)) ∙ ap (λ ats. slice_get ats 0) none)
 
 -- what a read added to what was read before
@@ -298,5 +289,4 @@ pub split_at : (front more now : List ℕ) (start : ℕ) → start ≡ length fr
 split_at front more now start is same begins =
     let own : take start now ≡ front = rw (same, is) begins in
     sym (ap (λ l. l ++ take (length now - start) (drop start now)) (sym own)
-    ∙ (ap (λ l. take start now ++ l) (take_rest now start)
-    ∙ (take-append-drop start now ∙ same)))
+    ∙ (ap (λ l. take start now ++ l) (take_rest now start) ∙ (take-append-drop start now ∙ same)))

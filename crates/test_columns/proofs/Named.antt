@@ -1,18 +1,14 @@
 -- The columns of a test file, and the first place at which two lists of names differ.
-use Rattle.std.proofs.Common.{◌≡◌, ◌∙◌, ◌<◌, ◌≤◌, ◌-◌, ◌⊎◌, ℕ, suc, List, [], ◌∷◌}
-use Rattle.std.proofs.Common.{Result, Ok, Err}
-use Rattle.std.proofs.Common.{ap, arith, inl, inr, length, refl, sym}
-use Rattle.std.specs.Prelude.{◌≢◌, Some, None, IfErr, OnOk, option_and_then, option_map}
-use Rattle.std.specs.Prelude.{slice_get, unwrap_or}
-use Rattle.bench_net.specs.declared.BenchFault.{BenchFault}
+use Rattle.std.proofs.Common.{◌≡◌, ◌∙◌, ◌<◌, ◌≤◌, ◌-◌, ◌⊎◌, ℕ, suc, List, [], ◌∷◌, Result, Ok, Err}
+use Rattle.std.{proofs.Common.{ap, arith, inl, inr, length, refl, sym}, specs.Prelude.unwrap_or}
+use Rattle.std.specs.Prelude.{◌≢◌, Some, None, IfErr, OnOk, option_and_then, option_map, slice_get}
+use Rattle.bench_net.specs.{declared.BenchFault.BenchFault, Refusal.{IsAccepted, IsRefused}}
+use Rattle.bench_net.specs.{Scan.sources, Statement.{Name, Statement}}
 use Rattle.bench_net.specs.declared.BenchFault.TheVariants as bench_fault
-use Rattle.bench_net.specs.Refusal.{IsAccepted, IsRefused}
-use Rattle.bench_net.specs.Scan.{sources}
-use Rattle.bench_net.specs.Statement.{Name, Statement}
 use Rattle.test_columns.specs.declared.ColumnFault.{ColumnFault}
-use Rattle.test_columns.specs.declared.ColumnFault.TheVariants as fault
 use Rattle.test_columns.specs.Columns.{AreInOrder, Columns, IsColumnFault, IsNamesFault, columns}
 use Rattle.test_columns.specs.Columns.{columns_in, first_written, names_in}
+use Rattle.test_columns.specs.declared.ColumnFault.TheVariants as fault
 
 -- names that are the same at each place
 pub same_names : (xs ys : List Name) (n : ℕ) → length xs ≤ n → length ys ≤ n
@@ -33,8 +29,7 @@ same_names (x ∷ xs) (y ∷ ys) n long other same =
 pub columns_are : (text bytes : List ℕ) (number : ℕ) (names : List Name)
     → Some (number, bytes) ≡ first_written text → Some names ≡ names_in bytes
     → columns text ≡ Some (record { line = number; names = names })
-columns_are text bytes number names line named =
-    ap (option_and_then columns_in) (sym line)
+columns_are text bytes number names line named = ap (option_and_then columns_in) (sym line)
     ∙ ap (option_map (λ names. record { line = number; names = names })) (sym named)
 
 -- a bench file with an error has no circuit

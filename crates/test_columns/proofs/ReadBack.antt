@@ -1,24 +1,17 @@
 -- The line that names columns, read back: its names, and the rows of the text behind it.
-use Rattle.std.proofs.Common.{◌≡◌, ◌<◌, ◌+◌, ◌-◌, ◌∙◌, ◌++◌, ℕ, zero, suc, Bool, true, false}
-use Rattle.std.proofs.Common.{List, [], ◌∷◌}
-use Rattle.std.proofs.Common.{append_assoc, ap, arith, filter, get_or, length, map, refl, sym, take}
-use Rattle.std.proofs.Common.{◌==◌, not, subst}
-use Rattle.std.specs.Prelude.{◌≢◌, ◌&&◌, ⊤, Option, Some, None, codes, slice_get}
-use Rattle.std.specs.Prelude.{option_and_then, option_map, unwrap_or}
-use Rattle.std.specs.Int.{is_in_range}
+use Rattle.std.proofs.Common.{◌≡◌, ◌<◌, ◌+◌, ◌-◌, ◌∙◌, ◌++◌, ℕ, zero, suc, Bool, true, false, List}
+use Rattle.std.proofs.Common.{[], ◌∷◌, append_assoc, ap, arith, filter, get_or, length, map, refl}
+use Rattle.std.{proofs.Common.{sym, take, ◌==◌, not, subst}, specs.Prelude.{option_map, unwrap_or}}
+use Rattle.std.specs.Prelude.{◌≢◌, ◌&&◌, ⊤, Option, Some, None, codes, slice_get, option_and_then}
+use Rattle.std.specs.{Int.is_in_range, Str.Lines.strip_carriage_return}
 use Rattle.std.specs.List.{AllZip, enumerate_from, flat_map, list_all, slice_split}
-use Rattle.std.specs.Str.Lines.{strip_carriage_return}
-use denote.Ref.{Bor}
-use Rattle.std.proofs.lemmas.Bool.{and_parts, cond-false, ne_eqb}
-use Rattle.std.proofs.lemmas.Bool.Decides.{nat_tests}
-use Rattle.std.proofs.lemmas.List.{append-nil}
-use Rattle.std.proofs.lemmas.List.Folds.{list_all-append}
-use Rattle.std.proofs.lemmas.List.Sums.{AllPass-from_list_all}
+use Rattle.std.proofs.lemmas.Bool.{and_parts, cond-false, ne_eqb, Decides.nat_tests}
+use Rattle.std.proofs.lemmas.List.{append-nil, Folds.list_all-append, Sums.AllPass-from_list_all}
 use Rattle.std.proofs.lemmas.List.Splits.{slice_split_at, slice_split_none}
+use denote.Ref.{Bor}
 use Rattle.text_lines.specs.Lines.{ends_line, is_blank, lines}
 use Rattle.text_lines.specs.Rows.{Row, content, rows, rows_from}
-use Rattle.bench_net.specs.Reading.{LinesState, States, statements}
-use Rattle.bench_net.specs.Refusal.{IsAccepted}
+use Rattle.bench_net.specs.{Reading.{LinesState, States, statements}, Refusal.IsAccepted}
 use Rattle.bench_net.specs.Scan.{cells, inputs, sources}
 use Rattle.bench_net.specs.Statement.{Name, Statement, Input, Output, Gate, Dff}
 use Rattle.bench_net.specs.Text.{IsToken, Spells, Token, Word, is_word_byte}
@@ -84,13 +77,11 @@ stated_names (l ∷ ls) (None ∷ stated) all = stated_names ls stated all.1
 stated_names (l ∷ ls) (Some s ∷ stated) all =
     one_more s (statements stated) (stated_name s l all.0) (stated_names ls stated all.1)
 
-joined_names : (first more : List Name) → AreNames first → AreNames more
-    → AreNames (first ++ more)
+joined_names : (first more : List Name) → AreNames first → AreNames more → AreNames (first ++ more)
 joined_names [] more is also = also
 joined_names (name ∷ first) more is also = (is.0, joined_names first more is.1 also)
 
-pub source_names : (bench : List ℕ) (c : List Statement) → IsAccepted bench c
-    → AreNames (sources c)
+pub source_names : (bench : List ℕ) (c : List Statement) → IsAccepted bench c → AreNames (sources c)
 source_names bench c accepted =
     let each : LinesState bench accepted.0 = accepted.1.each in
     let have = stated_names (lines bench) accepted.0 each in
@@ -196,8 +187,7 @@ split_names : (word : List ℕ) (names : List Name) → list_all is_word_byte wo
 split_names word [] is are =
     ap (slice_split is_blank) (append-nil word) ∙ slice_split_none is_blank word
     (λ k d h. no_blank (get_or word k d) (AllPass-from_list_all is_word_byte word is k d h))
-split_names word (name ∷ names) is are =
-    slice_split_at is_blank word 32 (name ++ spaced names)
+split_names word (name ∷ names) is are = slice_split_at is_blank word 32 (name ++ spaced names)
     (λ k d h. no_blank (get_or word k d) (AllPass-from_list_all is_word_byte word is k d h)) refl
     ∙ ap (λ words. word ∷ words) (split_names name names are.0.1 are.1)
 
@@ -231,14 +221,12 @@ first_is names rest are =
 
 pub columns_read : (names : List Name) (rest : List ℕ) → AreNames names
     → columns (columns_line names ++ rest) ≡ Some (record { line = 1; names = names })
-columns_read names rest are =
-    ap (option_and_then columns_in) (first_is names rest are)
+columns_read names rest are = ap (option_and_then columns_in) (first_is names rest are)
     ∙ ap (λ ws. option_map {U = Columns} (λ names. record { line = 1; names = names })
     (names_after ws)) (words_of_line names are)
 
 pub rows_read : (names : List Name) (rest : List ℕ) → AreNames names
     → rows (columns_line names ++ rest) ≡ rows_from 2 rest
-rows_read names rest are =
-    ap (λ ls. filter (λ (row : Row). not (length row.bytes == 0))
+rows_read names rest are = ap (λ ls. filter (λ (row : Row). not (length row.bytes == 0))
     (map (λ at. record { line = at.0; bytes = content at.1 }) (enumerate_from 1 ls)))
     (first_of_lines names rest are)

@@ -1,11 +1,9 @@
 -- Rows that stand one line further on are read as the same tests.
-use Rattle.std.proofs.Common.{◌≡◌, ℕ, ◌+◌, ◌∙◌, ◌==◌, inl, inr, not, List, []}
-use Rattle.std.proofs.Common.{◌∷◌, ap, filter, length, map, refl, sym}
+use Rattle.std.proofs.Common.{◌≡◌, ℕ, ◌+◌, ◌∙◌, ◌==◌, inl, inr, not, List, [], ◌∷◌, ap, filter}
+use Rattle.std.proofs.{Common.{length, map, refl, sym}, lemmas.Bool.cases_Bool}
 use Rattle.std.specs.Prelude.{Option, Some, None, nat_lt, filter_map}
 use Rattle.std.specs.List.{cons_option, enumerate_from, list_all}
-use Rattle.std.proofs.lemmas.Bool.{cases_Bool}
-use Rattle.text_lines.specs.Lines.{lines}
-use Rattle.text_lines.specs.Rows.{Row, content, is_bit, rows, rows_from}
+use Rattle.text_lines.specs.{Lines.lines, Rows.{Row, content, is_bit, rows, rows_from}}
 use Rattle.patterns.specs.Tests.{HasTests, TestList, max_tests, test_fault}
 use Rattle.patterns.specs.declared.TestFault.{TestFault}
 

@@ -1,16 +1,13 @@
 -- The names of a circuit's sources, from the results of the calls of a circuit.
-use Rattle.std.proofs.Common.{◌≡◌, ◌<◌, ◌≤◌, ◌-◌, ◌∙◌, ◌++◌, ℕ, zero, suc, List, [], ◌∷◌}
-use Rattle.std.proofs.Common.{ap, arith, length, map, refl, sym}
+use Rattle.std.proofs.Common.{◌≡◌, ◌<◌, ◌≤◌, ◌-◌, ◌∙◌, ◌++◌, ℕ, zero, suc, List, [], ◌∷◌, ap, arith}
+use Rattle.std.proofs.{Common.{length, map, refl, sym}, lemmas.Option.slice_get_within}
 use Rattle.std.proofs.lemmas.Option.{get_or_from_slice_get, slice_get-map, slice_get_past}
-use Rattle.std.proofs.lemmas.Option.{slice_get_within}
 use Rattle.std.proofs.lemmas.List.{length-map}
 use Rattle.std.specs.Prelude.{Some, None, option_map, slice_get, slice_index_or}
-use Rattle.bench_net.specs.declared.ScanCell.{ScanCell}
-use Rattle.bench_net.specs.Statement.{Name, Statement, Input, Dff}
+use Rattle.bench_net.specs.{declared.ScanCell.ScanCell, Statement.{Name, Statement, Input, Dff}}
 use Rattle.bench_net.specs.Scan.{cells, inputs, names, name_of, signal, sources}
 use Rattle.bench_net.proofs.Public.{defined_among, name_of-signal, of_cell, of_input}
-use Rattle.list_lemmas.proofs.Members.{Among, contained}
-use Rattle.list_lemmas.proofs.Places.{at_place, within_place}
+use Rattle.list_lemmas.proofs.{Members.{Among, contained}, Places.{at_place, within_place}}
 
 -- the number of a signal, the source at a place
 pub record IsSourceAt (c : List Statement) (place number : ℕ) : Type 0 where
@@ -53,8 +50,7 @@ input_at c ids place e lt =
     ∙ (slice_get-map (signal c) (inputs c) place ∙ ap (option_map (signal c)) at.1) in
     at_source c place (slice_index_or ids place 0) at.0
     (append_left (inputs c) (map (λ cell. cell.0) (cells c)) place at.0 at.1)
-    (defined_among c (Input at.0) at.0
-    (of_input c at.0 (at_place (inputs c) place at.0 at.1)) refl)
+    (defined_among c (Input at.0) at.0 (of_input c at.0 (at_place (inputs c) place at.0 at.1)) refl)
     (get_or_from_slice_get ids place (signal c at.0) 0 there)
 
 -- the element of a list of stored cells at the place of a cell of the circuit
@@ -71,8 +67,7 @@ stored_at (c ∷ cs) (r ∷ rs) f zero d e h = (c.0, refl, ap (λ p. p.0) (first
       f c.1,
     ) ∷ map (λ cell. (f cell.0, f cell.1)) cs → ◌≡◌ {A = ℕ × ℕ} (r.q, r.d) (f c.0, f c.1)
     first e = cc
-stored_at (c ∷ cs) (r ∷ rs) f (suc i) d e h =
-    stored_at cs rs f i d (rest e) (omega (arith, h))
+stored_at (c ∷ cs) (r ∷ rs) f (suc i) d e h = stored_at cs rs f i d (rest e) (omega (arith, h))
   where
     rest : (r.q, r.d) ∷ map {B = ℕ × ℕ} (λ cell. (cell.q, cell.d)) rs ≡ (
       f c.0,
@@ -94,8 +89,7 @@ after_inputs c ids place e le =
     ∙ ap (λ n. slice_get (map (λ cell. cell.0) (cells c)) (place - n)) (sym count)
 
 pub cell_at : (c : List Statement) (ids : List ℕ) (rs : List ScanCell) (place : ℕ) (d : ScanCell)
-    → ids ≡ map (signal c) (inputs c)
-    → map {B = ℕ × ℕ} (λ cell. (cell.q, cell.d)) rs
+    → ids ≡ map (signal c) (inputs c) → map {B = ℕ × ℕ} (λ cell. (cell.q, cell.d)) rs
     ≡ map (λ cell. (signal c cell.0, signal c cell.1)) (cells c)
     → length ids ≤ place → place - length ids < length rs
     → IsSourceAt c place (slice_index_or rs (place - length ids) d).q
@@ -104,12 +98,10 @@ cell_at c ids rs place d e f le lt =
     let cell = of_cell c at.0
     (at_place (map (λ cell. cell.0) (cells c)) (place - length ids) at.0 at.1) in
     at_source c place (slice_index_or rs (place - length ids) d).q at.0
-    (after_inputs c ids place e le ∙ at.1)
-    (defined_among c (Dff at.0 cell.0) at.0 cell.1 refl) at.2
+    (after_inputs c ids place e le ∙ at.1) (defined_among c (Dff at.0 cell.0) at.0 cell.1 refl) at.2
 
 pub none_at : (c : List Statement) (ids : List ℕ) (rs : List ScanCell) (place : ℕ)
-    → ids ≡ map (signal c) (inputs c)
-    → map {B = ℕ × ℕ} (λ cell. (cell.q, cell.d)) rs
+    → ids ≡ map (signal c) (inputs c) → map {B = ℕ × ℕ} (λ cell. (cell.q, cell.d)) rs
     ≡ map (λ cell. (signal c cell.0, signal c cell.1)) (cells c)
     → length ids ≤ place → length rs ≤ place - length ids → None ≡ slice_get (sources c) place
 none_at c ids rs place e f le past =

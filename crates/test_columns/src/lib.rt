@@ -2,8 +2,8 @@
 //!
 //! For example, `# columns: a b q` names the columns of tests for a circuit with the inputs `a` and
 //! `b` and the flip-flop `q`. [`check_columns`] compares the names with those of a circuit, so that
-//! tests of another order don't go unnoticed. [`columns_line`] writes such a line, and [`test_file`]
-//! a file that begins with it. The readers of `patterns` see only a comment.
+//! tests of another order don't go unnoticed. [`columns_line`] writes such a line, and
+//! [`test_file`] a file that begins with it. The readers of `patterns` see only a comment.
 #![tactic(auto)]
 
 ghost use Rattle.std.specs.Prelude.{◌≡◌, ◌≢◌, IfErr, OnOk};

@@ -1,19 +1,15 @@
 -- The tests of a file that is cut at the begin of a line are the tests of both pieces.
-use Rattle.std.proofs.Common.{◌≡◌, ℕ, ◌+◌, ◌<◌, ◌≤◌, ◌==◌, not, cond, Bool}
-use Rattle.std.proofs.Common.{true, false, List, [], ◌∷◌, map, length, take, Option, Some}
-use Rattle.std.proofs.Common.{None, sym, refl, ap, ◌∙◌, arith}
-use Rattle.std.specs.Prelude.{nat_lt}
+use Rattle.std.proofs.Common.{◌≡◌, ℕ, ◌+◌, ◌<◌, ◌≤◌, ◌==◌, not, cond, Bool, true, false, List, []}
+use Rattle.std.proofs.Common.{◌∷◌, map, length, take, Option, Some, None, sym, refl, ap, ◌∙◌, arith}
+use Rattle.std.{specs.Prelude.nat_lt, proofs.lemmas.Bool.lt-ltb}
 use Rattle.std.specs.List.{filter_map, cons_option, enumerate_from, list_all, slice_range}
-use Rattle.std.proofs.lemmas.Bool.{lt-ltb}
-use Rattle.text_lines.specs.Starts.{IsLineStart}
-use Rattle.text_lines.specs.Rows.{Row, rows, rows_from, is_bit}
+use Rattle.text_lines.specs.{Starts.IsLineStart, Rows.{Row, rows, rows_from, is_bit}}
 use Rattle.text_lines.proofs.Public.{held, held-cut}
-use Rattle.patterns.specs.declared.TestFault.{TestFault}
-use Rattle.patterns.specs.declared.TestFault.TheVariants as fault
+use Rattle.patterns.specs.{declared.TestFault.TestFault, LaterRows.with_tests}
 use Rattle.patterns.specs.Tests.{TestList, HasTests, max_tests, test_fault}
-use Rattle.patterns.specs.LaterRows.{with_tests}
-use Rattle.test_threads.specs.Stretches.{AreTestsBetween}
 use Rattle.patterns.proofs.Public.{HasTests-behind, bits, count_is}
+use Rattle.patterns.specs.declared.TestFault.TheVariants as fault
+use Rattle.test_threads.specs.Stretches.{AreTestsBetween}
 
 -- ---- rows without an error
 
@@ -25,8 +21,7 @@ three_hold true true false e f g none = absurd (cc)
 three_hold true false z e f g none = absurd (cc)
 three_hold false y z e f g none = absurd (cc)
 
-none_where_three_hold : (x y z : Bool) (e f g : TestFault)
-    → x ≡ true → y ≡ true → z ≡ true
+none_where_three_hold : (x y z : Bool) (e f g : TestFault) → x ≡ true → y ≡ true → z ≡ true
     → cond (not x) (Some e) (cond (not y) (Some f) (cond (not z) (Some g) None)) ≡ None
 none_where_three_hold true true true e f g _ _ _ = refl
 none_where_three_hold true true false e f g _ _ last = absurd (cc)
@@ -43,8 +38,7 @@ none_elsewhere width place other row same alike room none =
     none in
     none_where_three_hold (nat_lt other max_tests) (list_all is_bit same.bytes)
     (length same.bytes == width) fault.TooMany (fault.BadByte same.line) (fault.BadWidth same.line)
-    (lt-ltb other max_tests room)
-    (ap (list_all is_bit) (sym alike) ∙ three.1)
+    (lt-ltb other max_tests room) (ap (list_all is_bit) (sym alike) ∙ three.1)
     (ap (λ bytes. length bytes == width) (sym alike) ∙ three.2)
 
 nothing_first : (o : Option TestFault) (rest : List TestFault) → cons_option o rest ≡ []
@@ -53,8 +47,7 @@ nothing_first None rest e = (refl, e)
 nothing_first (Some y) rest e = absurd (cc)
 
 none_of_all_elsewhere : (width place other : ℕ) (own same : List Row) → held own ≡ held same
-    → other + length own ≤ max_tests
-    → filter_map (test_fault width) (enumerate_from place own) ≡ []
+    → other + length own ≤ max_tests → filter_map (test_fault width) (enumerate_from place own) ≡ []
     → filter_map (test_fault width) (enumerate_from other same) ≡ []
 none_of_all_elsewhere width place other [] [] alike room none = refl
 none_of_all_elsewhere width place other [] (row ∷ same) alike room none = absurd (cc)
@@ -82,8 +75,7 @@ bits_held (row ∷ own) (next ∷ same) alike =
 
 pub HasTests-cut : (text : List ℕ) (width start end : ℕ) (t more : TestList)
     → IsLineStart text start → HasTests (take start text) width t
-    → AreTestsBetween text width start end more
-    → length t.tests + length more.tests ≤ max_tests
+    → AreTestsBetween text width start end more → length t.tests + length more.tests ≤ max_tests
     → HasTests (take end text) width (with_tests t more.tests)
 HasTests-cut text width start end t more from has between room =
     let piece = rows (slice_range text start end) in

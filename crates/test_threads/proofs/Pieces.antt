@@ -1,8 +1,7 @@
 -- Lemmas on a buffer that a file fills piece by piece.
-use Rattle.std.proofs.Common.{◌≡◌, ℕ, ◌+◌, ◌≤◌, List, ◌++◌, Option, None, Some}
-use Rattle.std.proofs.Common.{length, take, drop, sym, ap, ◌∙◌, append_assoc}
-use Rattle.std.proofs.Common.{length-append, length-take-le, take-append-drop}
-use Rattle.std.specs.Io.KnownBytes.{Consumes}
+use Rattle.std.proofs.Common.{◌≡◌, ℕ, ◌+◌, ◌≤◌, List, ◌++◌, Option, None, Some, length, take, drop}
+use Rattle.std.proofs.Common.{sym, ap, ◌∙◌, append_assoc, length-append, length-take-le}
+use Rattle.std.{proofs.Common.take-append-drop, specs.Io.KnownBytes.Consumes}
 use Rattle.std.proofs.lemmas.List.{take_at}
 use borrow.Rule.Slice.PartMut.{put_mid, post_of}
 
@@ -25,8 +24,7 @@ take-put_mid-more place size count old read within fits =
     let front = take place old ++ take count read in
     let whole : put_mid place size old read ≡ front ++ behind =
     ap (λ bytes. take place old ++ (bytes ++ post_of place size old))
-    (sym (take-append-drop count read))
-    ∙ ap (λ bytes. take place old ++ bytes)
+    (sym (take-append-drop count read)) ∙ ap (λ bytes. take place old ++ bytes)
     (append_assoc (take count read) (drop count read) (post_of place size old))
     ∙ sym (append_assoc (take place old) (take count read) behind) in
     let size_of_front : length front ≡ place + count =

@@ -1,17 +1,13 @@
 -- Lemmas on a file whose bytes threads take in turn.
 use Rattle.std.proofs.Common.{◌≡◌, ℕ, ◌+◌, ◌-◌, ◌≤◌, List, [], ◌++◌, Option, None, Some, arith}
 use Rattle.std.proofs.Common.{true, false, length, take, drop, sym, refl, ap, ◌∙◌, subst}
-use Rattle.std.proofs.Common.{append_assoc}
-use Rattle.std.proofs.Common.{drop_at, length-append, length-drop, length-take-le, take-append-drop}
-use Rattle.std.proofs.Common.{All, slice_index}
-use Rattle.std.specs.List.{slice_range}
-use Rattle.std.specs.Io.KnownBytes.{Consumes, IsAtEnd}
-use Rattle.std.proofs.lemmas.List.{drop-drop, get_or-append-add, get_or_append_left}
-use Rattle.std.proofs.lemmas.List.{take-append-le, take_at}
+use Rattle.std.proofs.Common.{append_assoc, drop_at, length-append, length-drop, length-take-le}
+use Rattle.std.{proofs.Common.{take-append-drop, All, slice_index}, specs.List.slice_range}
+use Rattle.std.{specs.Io.KnownBytes.{Consumes, IsAtEnd}, proofs.lemmas.List.take_at}
+use Rattle.std.proofs.lemmas.List.{drop-drop, get_or-append-add, get_or_append_left, take-append-le}
 use Rattle.std.proofs.lemmas.List.Elements.{All-append}
 use Rattle.text_lines.specs.Starts.{IsLineStart}
-use Rattle.patterns.specs.LaterRows.{with_tests}
-use Rattle.patterns.specs.Tests.{TestList, max_tests}
+use Rattle.patterns.specs.{LaterRows.with_tests, Tests.{TestList, max_tests}}
 use Rattle.test_threads.specs.Pieces.{AreLinesAt, AreRowsOf, IsLineEnd, IsOpenAt}
 
 -- a text that is cut at the two places
@@ -44,12 +40,10 @@ pub text_is : (text : List ℕ) (left : Option (List ℕ)) (rest : List ℕ) (pl
     → text ≡ take place text ++ (rest ++ drop (place + length rest) text)
 text_is text left rest place at =
     let tail = drop place text in
-    let own : take (length rest) tail ≡ rest =
-    ap (λ n. take n tail) (omega arith) ∙ at.rest_is in
+    let own : take (length rest) tail ≡ rest = ap (λ n. take n tail) (omega arith) ∙ at.rest_is in
     let behind : drop (length rest) tail ≡ drop (place + length rest) text =
     drop-drop (length rest) place text in
-    sym (take-append-drop place text)
-    ∙ ap (λ l. take place text ++ l)
+    sym (take-append-drop place text) ∙ ap (λ l. take place text ++ l)
     (sym (take-append-drop (length rest) tail)
     ∙ (ap (λ l. l ++ drop (length rest) tail) own ∙ ap (λ l. rest ++ l) behind))
 
@@ -67,8 +61,7 @@ IsOpenAt-more text left later rest added place at read =
     let after = consumed (drop (place + length rest) text) later added
     (subst (λ l. Consumes l later added) at.left_is read) in
     let is : text ≡ take place text ++ ((rest ++ added) ++ after.0) =
-    text_is text left rest place at
-    ∙ ap (λ l. take place text ++ l)
+    text_is text left rest place at ∙ ap (λ l. take place text ++ l)
     (ap (λ l. rest ++ l) after.2 ∙ sym (append_assoc rest added after.0)) in
     open_of text (take place text) (rest ++ added) after.0 later place is
     (length-take-le place text (omega (arith, at.within))) after.1 at.starts
@@ -113,8 +106,7 @@ AreLines-cut text left buffer place count end at cut is =
     let more = drop (place + length buffer) text in
     let size : length before ≡ place = length-take-le place text (omega (arith, at.within)) in
     let t : text ≡ before ++ (buffer ++ more) = text_is text left buffer place at in
-    let feed : slice_index text (end - 1) ≡ 10 =
-    ap (λ l. slice_index l (end - 1)) t
+    let feed : slice_index text (end - 1) ≡ 10 = ap (λ l. slice_index l (end - 1)) t
     ∙ (ap (λ n. slice_index (before ++ (buffer ++ more)) n) (omega (arith, is, size, cut.some))
     ∙ (get_or-append-add before (buffer ++ more) (count - 1) 0
     ∙ (get_or_append_left buffer more 0 (count - 1) (omega (arith, cut.some, cut.within))

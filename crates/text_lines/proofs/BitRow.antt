@@ -1,12 +1,10 @@
 -- A text that begins with digits 0 and 1 and a line feed: these digits are its first line.
-use Rattle.std.proofs.Common.{◌≡◌, ℕ, ◌+◌, ◌-◌, ◌<◌, ◌==◌, true, false, List, [], ◌∷◌, ◌++◌}
-use Rattle.std.proofs.Common.{length, reverse, take, drop, get_or, sym, refl, ap, ◌∙◌, arith}
-use Rattle.std.proofs.Common.{add-one, drop-cons, take_all, length-append}
+use Rattle.std.proofs.Common.{◌≡◌, ℕ, ◌+◌, ◌-◌, ◌<◌, ◌==◌, true, false, List, [], ◌∷◌, ◌++◌, length}
+use Rattle.std.proofs.Common.{reverse, take, drop, get_or, sym, refl, ap, ◌∙◌, arith, add-one}
+use Rattle.std.proofs.{Common.{drop-cons, take_all, length-append}, lemmas.Bool.cond-false}
 use Rattle.std.proofs.Math.Seq.{take-append_seam, drop-append-add, get_or-append_seam}
-use Rattle.std.proofs.lemmas.Bool.{cond-false}
-use Rattle.std.proofs.lemmas.Bool.Decides.{nat_tests}
+use Rattle.std.proofs.lemmas.{Bool.Decides.nat_tests, List.{reverse-reverse, get_or_append_left}}
 use Rattle.std.proofs.lemmas.List.{take-append-drop, length-reverse, get_or-reverse}
-use Rattle.std.proofs.lemmas.List.{reverse-reverse, get_or_append_left}
 use Rattle.std.proofs.lemmas.List.Sums.{position_or_len_is, AllPass-from_list_all}
 use Rattle.std.specs.List.{list_all, before_first, after_first, position_or_len}
 use Rattle.std.specs.Str.Lines.{strip_carriage_return}
@@ -36,23 +34,18 @@ no_return b h = grind (arith, nat_tests)
 -- the first line feed of a text that begins with a row ends the row
 row_end : (row rest : List ℕ) → AreBits row
     → position_or_len ends_line (row ++ 10 ∷ rest) ≡ length row
-row_end row rest bits =
-    position_or_len_is ends_line (row ++ 10 ∷ rest) (length row) 0
+row_end row rest bits = position_or_len_is ends_line (row ++ 10 ∷ rest) (length row) 0
     (omega (arith, length-append row (10 ∷ rest)))
     (λ k h. ap ends_line (get_or_append_left row (10 ∷ rest) 0 k h)
     ∙ ends_none (get_or row k 0) (bit_at row bits k h))
     (λ h. ap ends_line (get_or-append_seam row 10 rest 0))
 
-pub before_end : (row rest : List ℕ) → AreBits row
-    → row ≡ before_first ends_line (row ++ 10 ∷ rest)
-before_end row rest bits =
-    sym (ap (λ n. take n (row ++ 10 ∷ rest)) (row_end row rest bits)
+pub before_end : (row rest : List ℕ) → AreBits row → row ≡ before_first ends_line (row ++ 10 ∷ rest)
+before_end row rest bits = sym (ap (λ n. take n (row ++ 10 ∷ rest)) (row_end row rest bits)
     ∙ take-append_seam row (10 ∷ rest))
 
-pub after_end : (row rest : List ℕ) → AreBits row
-    → rest ≡ after_first ends_line (row ++ 10 ∷ rest)
-after_end row rest bits =
-    sym (ap (λ n. drop (n + 1) (row ++ 10 ∷ rest)) (row_end row rest bits)
+pub after_end : (row rest : List ℕ) → AreBits row → rest ≡ after_first ends_line (row ++ 10 ∷ rest)
+after_end row rest bits = sym (ap (λ n. drop (n + 1) (row ++ 10 ∷ rest)) (row_end row rest bits)
     ∙ drop-append-add row (10 ∷ rest) 1)
 
 -- a row holds all of itself
@@ -74,10 +67,8 @@ kept_back row bits =
 no_comment : (row : List ℕ) → AreBits row → before_first begins_comment row ≡ row
 no_comment row bits =
     let none = position_or_len_is begins_comment row (length row) 0 (omega arith)
-    (λ k h. begins_none (get_or row k 0) (bit_at row bits k h))
-    (λ h. absurd (omega (arith, h)))
-    in
-    ap (λ n. take n row) none ∙ take_all (length row) row (omega arith)
+    (λ k h. begins_none (get_or row k 0) (bit_at row bits k h)) (λ h. absurd (omega (arith, h)))
+    in ap (λ n. take n row) none ∙ take_all (length row) row (omega arith)
 
 no_return_at_end : (row : List ℕ) → AreBits row → 0 < length row → strip_carriage_return row ≡ row
 no_return_at_end row bits some =
@@ -90,8 +81,7 @@ row_content (b ∷ row) bits =
     let all = b ∷ row in
     sym (ap content (no_return_at_end all bits (omega arith))
     ∙ ap (λ bytes. without_back (without_front bytes)) (no_comment all bits)
-    ∙ ap without_back (kept_front all (bit_at all bits))
-    ∙ kept_back all bits)
+    ∙ ap without_back (kept_front all (bit_at all bits)) ∙ kept_back all bits)
 
 -- a text, cut at a line feed
 cut : (text : List ℕ) (at : ℕ) → at < length text → get_or text at 0 ≡ 10
@@ -108,13 +98,11 @@ pub first_held : (text : List ℕ) (count : ℕ) → count < length text → get
     → take count text ≡ content (strip_carriage_return (before_first ends_line text))
 first_held text count within feed bits =
     let line = take count text in
-    row_content line bits
-    ∙ ap (λ bytes. content (strip_carriage_return bytes))
+    row_content line bits ∙ ap (λ bytes. content (strip_carriage_return bytes))
     (before_end line (drop (count + 1) text) bits
     ∙ ap (before_first ends_line) (cut text count within feed))
 
 pub after_held : (text : List ℕ) (count : ℕ) → count < length text → get_or text count 0 ≡ 10
     → AreBits (take count text) → drop (count + 1) text ≡ after_first ends_line text
-after_held text count within feed bits =
-    after_end (take count text) (drop (count + 1) text) bits
+after_held text count within feed bits = after_end (take count text) (drop (count + 1) text) bits
     ∙ ap (after_first ends_line) (cut text count within feed)

@@ -1,24 +1,18 @@
 -- The rows of a text that is cut at the begin of a line are the rows of both pieces, one after
 -- another.
-use Rattle.std.proofs.Common.{◌≡◌, ℕ, zero, suc, ◌+◌, ◌-◌, ◌<◌, ◌≤◌, Bool, true, false, not}
-use Rattle.std.proofs.Common.{◌==◌, cond, List, [], ◌∷◌, ◌++◌, map, filter, length, take, drop}
-use Rattle.std.proofs.Common.{get_or, sym, refl, ap, ◌∙◌, ⊎_elim, subst, arith, add-one}
-use Rattle.std.proofs.Common.{drop-cons}
-use Rattle.std.proofs.Common.{take_all}
-use Rattle.std.specs.Prelude.{count_by}
+use Rattle.std.proofs.Common.{◌≡◌, ℕ, zero, suc, ◌+◌, ◌-◌, ◌<◌, ◌≤◌, Bool, true, false, not, ◌==◌}
+use Rattle.std.proofs.Common.{cond, List, [], ◌∷◌, ◌++◌, map, filter, length, take, drop, get_or}
+use Rattle.std.proofs.Common.{sym, refl, ap, ◌∙◌, ⊎_elim, subst, arith, add-one, drop-cons}
+use Rattle.std.{proofs.Common.take_all, specs.Prelude.count_by}
 use Rattle.std.specs.List.{slice_split, onto_first, enumerate_from, slice_range}
-use Rattle.std.specs.Str.Lines.{strip_carriage_return}
-use Rattle.std.proofs.lemmas.Bool.{cases_Bool, cases_lt}
+use Rattle.std.{specs.Str.Lines.strip_carriage_return, proofs.lemmas.Bool.{cases_Bool, cases_lt}}
 use Rattle.std.proofs.lemmas.List.{append-nil, append_assoc, drop_all, length-map, map-append}
-use Rattle.std.proofs.lemmas.List.{take_more}
-use Rattle.std.proofs.lemmas.List.{take-append-drop, get_or-take, length-take-le, drop-take}
-use Rattle.std.proofs.lemmas.List.{take-take, get_or-drop, length-drop}
-use Rattle.std.proofs.lemmas.List.Elements.{filter-append}
+use Rattle.std.proofs.lemmas.List.{take_more, take-append-drop, get_or-take, length-take-le}
+use Rattle.std.proofs.lemmas.List.{drop-take, take-take, get_or-drop, length-drop}
+use Rattle.std.proofs.lemmas.List.{Elements.filter-append, Splits.length-slice_split}
 use Rattle.std.proofs.lemmas.List.Splits.{slice_split-cons_yes, slice_split-cons_no}
-use Rattle.std.proofs.lemmas.List.Splits.{length-slice_split}
 use Rattle.std.proofs.lemmas.List.Sums.{count_by_more_yes}
-use Rattle.text_lines.specs.Lines.{ends_line, lines}
-use Rattle.text_lines.specs.Rows.{Row, content, rows_from}
+use Rattle.text_lines.specs.{Lines.{ends_line, lines}, Rows.{Row, content, rows_from}}
 use Rattle.text_lines.specs.Starts.{IsLineStart, IsLineStartFrom}
 
 -- ---- the parts of a text between line feeds
@@ -28,22 +22,17 @@ onto_first-append : (x : ℕ) (before after : List (List ℕ)) → 0 < length be
 onto_first-append x [] after some = absurd (omega arith)
 onto_first-append x (part ∷ parts) after some = refl
 
-parts-append : (front : List ℕ) (rest : List ℕ)
-    → slice_split ends_line (front ++ 10 ∷ rest)
+parts-append : (front : List ℕ) (rest : List ℕ) → slice_split ends_line (front ++ 10 ∷ rest)
     ≡ slice_split ends_line front ++ slice_split ends_line rest
 parts-append [] rest = slice_split-cons_yes ends_line 10 rest refl
 parts-append (x ∷ front) rest =
     let more = slice_split ends_line rest in
     let later = parts-append front rest in
-    ⊎_elim
-    (λ (ends : ends_line x ≡ true).
-    slice_split-cons_yes ends_line x (front ++ 10 ∷ rest) ends
-    ∙ ap (λ parts. [] ∷ parts) later
+    ⊎_elim (λ (ends : ends_line x ≡ true).
+    slice_split-cons_yes ends_line x (front ++ 10 ∷ rest) ends ∙ ap (λ parts. [] ∷ parts) later
     ∙ sym (ap (λ parts. parts ++ more) (slice_split-cons_yes ends_line x front ends)))
-    (λ (goes_on : ends_line x ≡ false).
-    slice_split-cons_no ends_line x (front ++ 10 ∷ rest) goes_on
-    ∙ ap (onto_first x) later
-    ∙ onto_first-append x (slice_split ends_line front) more
+    (λ (goes_on : ends_line x ≡ false). slice_split-cons_no ends_line x (front ++ 10 ∷ rest) goes_on
+    ∙ ap (onto_first x) later ∙ onto_first-append x (slice_split ends_line front) more
     (omega (arith, length-slice_split ends_line front))
     ∙ sym (ap (λ parts. parts ++ more) (slice_split-cons_no ends_line x front goes_on)))
     (cases_Bool (ends_line x))
@@ -73,19 +62,15 @@ lines-cut text (suc at) end low within start some =
     let e : end ≡ suc at + (end - suc at) = omega arith in
     let more : drop (suc at) (take end text) ≡ rest =
     ap (λ k. drop (suc at) (take k text)) e ∙ drop-take (suc at) (end - suc at) text in
-    let whole : take end text ≡ front ++ 10 ∷ rest =
-    sym (take-append-drop (suc at) (take end text))
+    let whole : take end text ≡ front ++ 10 ∷ rest = sym (take-append-drop (suc at) (take end text))
     ∙ ap (λ l. l ++ drop (suc at) (take end text)) (take-take (suc at) end text low ∙ own)
-    ∙ ap (λ l. (front ++ 10 ∷ []) ++ l) more
-    ∙ append_assoc front (10 ∷ []) rest in
+    ∙ ap (λ l. (front ++ 10 ∷ []) ++ l) more ∙ append_assoc front (10 ∷ []) rest in
     let before = map strip_carriage_return (slice_split ends_line front) in (
       before,
-      ap lines own
-          ∙ ap (map strip_carriage_return) (parts-append front [])
+      ap lines own ∙ ap (map strip_carriage_return) (parts-append front [])
           ∙ map-append strip_carriage_return (slice_split ends_line front)
           (slice_split ends_line []),
-      ap lines whole
-          ∙ ap (map strip_carriage_return) (parts-append front rest)
+      ap lines whole ∙ ap (map strip_carriage_return) (parts-append front rest)
           ∙ map-append strip_carriage_return (slice_split ends_line front)
           (slice_split ends_line rest),
       length-map (slice_split ends_line front) strip_carriage_return
@@ -104,8 +89,7 @@ enumerate_from-append n [] after =
     ap (λ k. enumerate_from k after) same
 enumerate_from-append n (x ∷ before) after =
     let same : n + 1 + length before ≡ n + suc (length before) = omega arith in
-    ap (λ rest. (n, x) ∷ rest)
-    (enumerate_from-append (n + 1) before after
+    ap (λ rest. (n, x) ∷ rest) (enumerate_from-append (n + 1) before after
     ∙ ap (λ k. enumerate_from (n + 1) before ++ enumerate_from k after) same)
 
 -- ---- the rows of parts
@@ -136,11 +120,9 @@ rows_of_parts-append first before after =
     (map row_at (enumerate_from (first + length lines) more))
     ∙ ap (λ n. rows_of_parts first before ++ rows_of_parts (first + n) after) count
 
-rows_from-append : (first : ℕ) (front rest : List ℕ)
-    → rows_from first (front ++ 10 ∷ rest)
+rows_from-append : (first : ℕ) (front rest : List ℕ) → rows_from first (front ++ 10 ∷ rest)
     ≡ rows_from first front ++ rows_from (first + length (slice_split ends_line front)) rest
-rows_from-append first front rest =
-    ap (rows_of_parts first) (parts-append front rest)
+rows_from-append first front rest = ap (rows_of_parts first) (parts-append front rest)
     ∙ rows_of_parts-append first (slice_split ends_line front) (slice_split ends_line rest)
 
 rows_from-none : (first : ℕ) → rows_from first [] ≡ []
@@ -150,8 +132,7 @@ rows_from-none first = refl
 
 -- the bytes before the place, and from it on
 abbrev Cut : ℕ → List ℕ → ℕ → Type 0
-Cut first text place = rows_from first text
-    ≡ rows_from first (take place text)
+Cut first text place = rows_from first text ≡ rows_from first (take place text)
     ++ rows_from (first + count_by ends_line (take place text)) (drop place text)
 
 at_end : (first : ℕ) (text : List ℕ) (place : ℕ) → length text ≤ place → Cut first text place
@@ -159,8 +140,7 @@ at_end first text place past =
     let whole : take place text ≡ text = take_all place text past in
     let none : drop place text ≡ [] = drop_all place text past in
     let line = first + count_by ends_line (take place text) in
-    sym (append-nil (rows_from first text))
-    ∙ ap (λ front. rows_from first front ++ []) (sym whole)
+    sym (append-nil (rows_from first text)) ∙ ap (λ front. rows_from first front ++ []) (sym whole)
     ∙ ap (λ rest. rows_from first (take place text) ++ rows_from line rest) (sym none)
 
 after_line_feed : (first : ℕ) (text : List ℕ) (at : ℕ) → at + 1 < length text
@@ -180,8 +160,7 @@ after_line_feed first text at within feed =
     let count : length (slice_split ends_line front) ≡ count_by ends_line (take (at + 1) text) =
     length-slice_split ends_line front
     ∙ sym (count_by_more_yes ends_line text at 0 short (ap ends_line feed)) in
-    ap (rows_from first) whole
-    ∙ rows_from-append first front rest
+    ap (rows_from first) whole ∙ rows_from-append first front rest
     ∙ ap (λ rows. rows ++ rows_from (first + length (slice_split ends_line front)) rest)
     (sym own ∙ ap (rows_from first) (sym line))
     ∙ ap (λ n. rows_from first (take (at + 1) text) ++ rows_from (first + n) rest) count
@@ -192,9 +171,7 @@ pub rows_from-cut : (first : ℕ) (text : List ℕ) (place : ℕ) → IsLineStar
 rows_from-cut first text zero start =
     let same : first ≡ first + 0 = omega arith in
     ap (λ n. rows_from n text) same
-rows_from-cut first text (suc at) start =
-    ⊎_elim
-    (λ (within : suc at < length text).
+rows_from-cut first text (suc at) start = ⊎_elim (λ (within : suc at < length text).
     let more : at + 1 < length text = omega arith in
     let last : at ≡ suc at - 1 = omega arith in
     let feed : get_or text at 0 ≡ 10 =
@@ -228,8 +205,7 @@ held_alike first other (part ∷ parts) =
     go first other bytes (rows_of_parts (first + 1) parts) (rows_of_parts (other + 1) parts)
     (not (length bytes == 0)) later
   where
-    go : (m n : ℕ) (bytes : List ℕ) (rows others : List Row) (some : Bool)
-        → held rows ≡ held others
+    go : (m n : ℕ) (bytes : List ℕ) (rows others : List Row) (some : Bool) → held rows ≡ held others
         → held (cond some (record { line = m; bytes = bytes } ∷ rows) rows)
         ≡ held (cond some (record { line = n; bytes = bytes } ∷ others) others)
     go m n bytes rows others true same = ap (λ more. bytes ∷ more) same
@@ -237,8 +213,7 @@ held_alike first other (part ∷ parts) =
 
 -- the rows of a front of a text have the contents of the rows of both pieces
 pub held-cut : (text : List ℕ) (place end : ℕ) → place ≤ end → end ≤ length text
-    → IsLineStart text place
-    → (n : ℕ) × (rows_from 1 (take end text)
+    → IsLineStart text place → (n : ℕ) × (rows_from 1 (take end text)
     ≡ rows_from 1 (take place text) ++ rows_from n (slice_range text place end))
     × (held (rows_from n (slice_range text place end))
     ≡ held (rows_from 1 (slice_range text place end)))

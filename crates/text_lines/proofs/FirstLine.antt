@@ -1,10 +1,8 @@
 -- The lines of a text are its first line and, if a line feed ends it, the lines of the rest.
 use Rattle.std.proofs.Common.{◌≡◌, ℕ, ◌+◌, ◌<◌, ◌≤◌, Option, Some, None, List, [], ◌∷◌, map, length}
-use Rattle.std.proofs.Common.{take, drop, sym, refl, ap, ◌∙◌, arith}
-use Rattle.std.specs.Prelude.{slice_index}
+use Rattle.std.{proofs.Common.{take, drop, sym, refl, ap, ◌∙◌, arith}, specs.Prelude.slice_index}
 use Rattle.std.specs.List.{slice_split, before_first, after_first, position_or_len}
-use Rattle.std.specs.Str.Lines.{strip_carriage_return}
-use Rattle.std.proofs.lemmas.Bool.{false_from_ne_true}
+use Rattle.std.{specs.Str.Lines.strip_carriage_return, proofs.lemmas.Bool.false_from_ne_true}
 use Rattle.std.proofs.lemmas.List.Splits.{length-slice_split, slice_split_first, slice_split_none}
 use Rattle.std.proofs.lemmas.List.Sums.{count_by-le-length, fails_before_first, position_or_len_is}
 use Rattle.std.proofs.lemmas.List.{length-map}
@@ -14,10 +12,8 @@ use Rattle.text_lines.specs.Lines.{ends_line, lines}
 -- the place of the first line feed
 feed_at : (text : List ℕ) (at : ℕ) → IsFirstByte (is_byte 10) text (Some at)
     → position_or_len ends_line text ≡ at
-feed_at text at found =
-    position_or_len_is ends_line text at 0 (omega (arith, found.0.high))
-    (λ k low. false_from_ne_true _ (found.0.before k (omega arith) low))
-    (λ _. found.1)
+feed_at text at found = position_or_len_is ends_line text at 0 (omega (arith, found.0.high))
+    (λ k low. false_from_ne_true _ (found.0.before k (omega arith) low)) (λ _. found.1)
 
 pub lines_first : (text : List ℕ) (at : ℕ) → at < length text
     → IsFirstByte (is_byte 10) text (Some at)
@@ -33,8 +29,7 @@ pub lines_last : (text : List ℕ) → IsFirstByte (is_byte 10) text None
 lines_last text none =
     let end = position_or_len_is ends_line text (length text) 0 (omega arith)
     (λ k below. false_from_ne_true _ (none k (omega arith) below)) (λ h. absurd (omega (arith, h)))
-    in
-    ap (map strip_carriage_return) (slice_split_none ends_line text
+    in ap (map strip_carriage_return) (slice_split_none ends_line text
     (λ k d below. fails_before_first ends_line text k d (omega (arith, end))))
 
 -- a text has at most one line more than bytes

@@ -1,9 +1,8 @@
 -- Pairs of a list, of faults or of their names, and of another list; and lines that are written for
 -- each pair, one after another.
 use Rattle.std.proofs.Common.{◌≡◌, ◌≤◌, ◌<◌, ℕ, zero, suc, ◌+◌, List, [], ◌∷◌, length, take, ap}
-use Rattle.std.proofs.Common.{get_or, arith, refl, ◌∙◌}
+use Rattle.std.{proofs.Common.{get_or, arith, refl, ◌∙◌}, specs.List.flat_map}
 use Rattle.std.specs.Prelude.{Some, None, slice_get, zip, unwrap_or}
-use Rattle.std.specs.List.{flat_map}
 use Rattle.list_lemmas.proofs.Places.{within_place}
 use Rattle.byte_output.specs.Output.{Output, TakesAll, TakesFront}
 use Rattle.byte_output.proofs.Public.{takes_more, stopped, flat_map_cut, flat_map_taken}
@@ -38,8 +37,7 @@ pub line_taken : {F X : Type 0} (line : F × X → List ℕ) (fs : List F) (xs :
 line_taken line fs xs i x text a b c lt has is before wrote =
     let at = within_place fs i lt in
     let pair = zipped_by fs xs i at.0 x (at.0, x) at.1 has in
-    rw (flat_map_taken line (zip fs xs) i (at.0, x) (text at.0) pair.0
-    (is at.0 ∙ ap line pair.1))
+    rw (flat_map_taken line (zip fs xs) i (at.0, x) (text at.0) pair.0 (is at.0 ∙ ap line pair.1))
     (takes_more a b c _ _ before (wrote at.0 at.1))
 
 -- a beginning of it was taken
@@ -57,6 +55,5 @@ line_stopped line fs xs i x text a b c lt has is before wrote =
 -- the lines of all pairs were taken
 pub lines_taken : {F X : Type 0} (line : F × X → List ℕ) (fs : List F) (xs : List X) (i : ℕ)
     (a b : Output) → length xs ≡ length fs → length fs ≤ i
-    → TakesAll a b (flat_map line (take i (zip fs xs)))
-    → TakesAll a b (flat_map line (zip fs xs))
+    → TakesAll a b (flat_map line (take i (zip fs xs))) → TakesAll a b (flat_map line (zip fs xs))
 lines_taken line fs xs i a b same all before = rw (all_zipped fs xs i same all) at before

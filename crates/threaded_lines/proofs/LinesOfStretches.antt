@@ -1,12 +1,9 @@
 -- The lines of stretches of a list, one stretch after another.
-use Rattle.std.proofs.Common.{◌≡◌, ◌≤◌, ◌<◌, ℕ, zero, suc, ◌+◌, ◌-◌}
-use Rattle.std.proofs.Common.{List, [], ◌∷◌, ◌++◌, length, take}
-use Rattle.std.proofs.Common.{drop, take_all, ap, get_or, arith, refl, sym}
-use Rattle.std.proofs.Common.{subst, ◌∙◌, append-nil, append_assoc}
+use Rattle.std.proofs.Common.{◌≡◌, ◌≤◌, ◌<◌, ℕ, zero, suc, ◌+◌, ◌-◌, List, [], ◌∷◌, ◌++◌, length}
+use Rattle.std.proofs.Common.{take, drop, take_all, ap, get_or, arith, refl, sym, subst, ◌∙◌}
+use Rattle.std.proofs.{Common.{append-nil, append_assoc}, lemmas.List.{drop-map, take-map}}
 use Rattle.std.proofs.lemmas.List.{take-append-drop, take-take, drop-take, append_cancel_left}
-use Rattle.std.proofs.lemmas.List.{drop-map, take-map}
-use Rattle.std.proofs.lemmas.List.Concat.{flat_map-append}
-use Rattle.std.proofs.lemmas.List.Folds.{flat_map-map}
+use Rattle.std.proofs.lemmas.List.{Concat.flat_map-append, Folds.flat_map-map}
 use Rattle.std.specs.Prelude.{Some, None, slice_get, map, zip, unwrap_or}
 use Rattle.std.specs.List.{flat_map, slice_range}
 use Rattle.list_lemmas.proofs.Places.{place_within, within_place}
@@ -58,8 +55,7 @@ line_more f xs a i d y le lt is = both_stretches f xs a i (i + 1) le (omega arit
 
 -- the lines of a stretch round the line at a place
 line_within : {X : Type 0} (f : X → List ℕ) (xs : List X) (a i b : ℕ) (d : X) (y : List ℕ) → a ≤ i
-    → i < b → i < length xs → y ≡ f (get_or xs i d)
-    → flat_map f (slice_range xs a b)
+    → i < b → i < length xs → y ≡ f (get_or xs i d) → flat_map f (slice_range xs a b)
     ≡ flat_map f (slice_range xs a i) ++ (y ++ flat_map f (slice_range xs (i + 1) b))
 line_within f xs a i b d y le before lt is =
     both_stretches f xs a (i + 1) b (omega (arith, le)) (omega (arith, before))
@@ -193,8 +189,7 @@ pub mapped_count : {F X : Type 0} (line : F × X → List ℕ) (fs : List F) (xs
     → length xs ≡ length fs → length (map line (zip fs xs)) ≡ length fs
 mapped_count line [] xs same = refl
 mapped_count line (f ∷ fs) [] same = absurd (omega (arith, same))
-mapped_count line (f ∷ fs) (x ∷ xs) same =
-    ap suc (mapped_count line fs xs (omega (arith, same)))
+mapped_count line (f ∷ fs) (x ∷ xs) same = ap suc (mapped_count line fs xs (omega (arith, same)))
 
 -- they were taken, as those of one stretch
 pub all_put : {X : Type 0} (f : X → List ℕ) (xs : List X) (n : ℕ) (p q : Output) → n ≡ length xs
@@ -204,8 +199,7 @@ all_put f xs n p q is put = subst (λ text. TakesAll p q text) (all_lines f xs n
 -- those of a stretch were taken, and then a beginning of the rest
 pub all_cut : {X : Type 0} (f : X → List ℕ) (xs : List X) (i : ℕ) (p q r : Output)
     → i ≤ length xs → TakesAll p q (flat_map f (slice_range xs 0 i))
-    → TakesFront q r (flat_map f (slice_range xs i (length xs)))
-    → TakesFront p r (flat_map f xs)
+    → TakesFront q r (flat_map f (slice_range xs i (length xs))) → TakesFront p r (flat_map f xs)
 all_cut f xs i p q r le first second =
     subst (λ text. TakesFront p r text) (all_lines f xs (length xs) refl)
     (stretch_cut f xs 0 i (length xs) (length xs) p q r (omega arith) le (omega arith) first second)

@@ -1,21 +1,15 @@
 -- The lines that carry a signal are activated as its stem is.
 use Rattle.std.proofs.Common.{◌≡◌, ◌∙◌, ℕ, zero, suc, Bool, true, List, ap, not, subst, sym}
 use Rattle.std.specs.Prelude.{◌↔◌, Contains, IfSome, Some, slice_get}
-use Rattle.bench_net.specs.Circuit.{IsWellFormed}
-use Rattle.bench_net.specs.Scan.{name_of, names}
-use Rattle.bench_net.specs.Statement.{Name, Statement}
-use Rattle.bench_net.proofs.Public.{name_of-signal}
-use Rattle.fault_model.specs.declared.Line.{Line}
-use Rattle.fault_model.specs.declared.Line.TheVariants as line
-use Rattle.fault_model.specs.declared.Model.{Model}
+use Rattle.bench_net.specs.{Circuit.IsWellFormed, Scan.{name_of, names}}
+use Rattle.bench_net.{specs.Statement.{Name, Statement}, proofs.Public.name_of-signal}
+use Rattle.fault_model.specs.{declared.Line.Line, declared.Model.Model, Fault.{Fault, faults}}
 use Rattle.fault_model.specs.declared.Model.TheVariants.{StuckAt, Transition, TransitionPairs}
-use Rattle.fault_model.specs.Detection.{HasBit, IsInitialized, LooksBack, name_on}
-use Rattle.fault_model.specs.Fault.{Fault, faults}
-use Rattle.fault_model.specs.Solution.{Test}
+use Rattle.fault_model.specs.{Detection.{HasBit, IsInitialized, LooksBack, name_on}, Solution.Test}
 use Rattle.fault_model.proofs.Public.{carries, listed_model}
-use Rattle.undetected.specs.Activation.{IsActivated}
+use Rattle.fault_model.specs.declared.Line.TheVariants as line
+use Rattle.undetected.specs.{Activation.IsActivated, Activated.stem_fault}
 use Rattle.flat_circuit.specs.Origins.{Carries}
-use Rattle.undetected.specs.Activated.{stem_fault}
 
 module _ (c : List Statement) (l k : Line) (n : Name) (on : name_on c l ≡ Some n)
     (too : name_on c k ≡ Some n) where

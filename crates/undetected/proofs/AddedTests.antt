@@ -1,14 +1,12 @@
 -- The flags of signals, while tests are added group by group.
 use Rattle.std.proofs.Common.{◌≡◌, ◌≢◌, ◌<◌, ◌≤◌, ◌+◌, ◌*◌, ◌∙◌, ◌⊎◌, ℕ, Bool, true, false, List}
 use Rattle.std.proofs.Common.{ap, arith, inl, inr, length, set, subst, sym}
-use Rattle.std.specs.Prelude.{◌↔◌, IsTrue, Some, slice_get, slice_index_or}
-use Rattle.std.specs.Prelude.{if◌then◌else◌}
+use Rattle.std.specs.Prelude.{◌↔◌, IsTrue, Some, slice_get, slice_index_or, if◌then◌else◌}
 use Rattle.std.proofs.lemmas.Bool.{cases_eq, cases_lt, false≢true, le-ltb, lt-ltb}
 use Rattle.std.proofs.lemmas.List.{get_or-set_other, get_or-set_same, length-set}
 use Rattle.std.proofs.lemmas.Option.{get_or_from_slice_get, slice_get-get_or, slice_get_within}
 use Rattle.block_sim.specs.Parts.{Parts}
-use Rattle.undetected.specs.Activated.{AreAddedBefore, IsActivatedInGroup, end_at}
-use Rattle.undetected.specs.Activated.{stem_fault}
+use Rattle.undetected.specs.Activated.{AreAddedBefore, IsActivatedInGroup, end_at, stem_fault}
 use Rattle.undetected.specs.Activation.{ActivatesAt}
 
 -- where a signal's tests end: those of the signals before a number were added
@@ -21,8 +19,7 @@ open_end group signal s le =
     ap (λ b. if b then 128 * (group + 1) else 128 * group) (le-ltb s signal le)
 
 -- of other signals nothing changes
-same_end : (group signal s : ℕ) → s ≢ signal
-    → end_at group (signal + 1) s ≡ end_at group signal s
+same_end : (group signal s : ℕ) → s ≢ signal → end_at group (signal + 1) s ≡ end_at group signal s
 same_end group signal s other = go (cases_lt s signal)
   where
     go : (s < signal) ⊎ (signal ≤ s) → end_at group (signal + 1) s ≡ end_at group signal s
@@ -39,8 +36,7 @@ module _ (job : Parts) (bit : Bool) (start : List Bool) where
 
   ends : (s end other : ℕ) (old flag : Bool) → end ≡ other
       → IsTrue flag ↔ (IsTrue old ⊎ Before s end) → IsTrue flag ↔ (IsTrue old ⊎ Before s other)
-  ends s end other old flag same h =
-      subst (λ e. IsTrue flag ↔ (IsTrue old ⊎ Before s e)) same h
+  ends s end other old flag same h = subst (λ e. IsTrue flag ↔ (IsTrue old ⊎ Before s e)) same h
 
   -- a flag that is not set takes the answer of the group
   pub added : (group signal : ℕ) (flags : List Bool) (answer : Bool)
@@ -63,10 +59,7 @@ module _ (job : Parts) (bit : Bool) (start : List Bool) where
 
       here : (o : Bool) → slice_get start signal ≡ Some o
           → IsTrue answer ↔ (IsTrue o ⊎ Before signal (128 * (group + 1)))
-      here o there = (
-        λ e. let h = tells.0 e in inr (h.0, h.2, h.3),
-        λ h. first h,
-      )
+      here o there = (λ e. let h = tells.0 e in inr (h.0, h.2, h.3), λ h. first h)
         where
           last : (h : Before signal (128 * (group + 1)))
               → (h.0 < 128 * group) ⊎ (128 * group ≤ h.0) → IsTrue answer
@@ -85,8 +78,7 @@ module _ (job : Parts) (bit : Bool) (start : List Bool) where
           ∙ get_or_from_slice_get (set flags signal answer) s flag false at) in
           let end : 128 * (group + 1) ≡ end_at group (signal + 1) s =
           sym (added_end group (signal + 1) s (omega (arith, e))) in
-          let there : slice_get start signal ≡ Some old =
-          ap (slice_get start) (sym e) ∙ was in
+          let there : slice_get start signal ≡ Some old = ap (slice_get start) (sym e) ∙ was in
           ends s (128 * (group + 1)) (end_at group (signal + 1) s) old flag end
           (subst (λ i. IsTrue flag ↔ (IsTrue old ⊎ Before i (128 * (group + 1)))) (sym e)
           (subst (λ b. IsTrue b ↔ (IsTrue old ⊎ Before signal (128 * (group + 1)))) got

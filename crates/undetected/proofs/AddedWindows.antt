@@ -1,14 +1,13 @@
 -- The flags of signals, while the tests of windows are added.
-use Rattle.std.proofs.Common.{◌≡◌, ◌<◌, ◌≤◌, ◌+◌, ◌*◌, ◌-◌, ◌∙◌, ◌⊎◌, ℕ, suc, Bool, false, List}
-use Rattle.std.proofs.Common.{ap, arith, inl, inr, length, replicate, subst, sym}
+use Rattle.std.proofs.Common.{◌≡◌, ◌<◌, ◌≤◌, ◌+◌, ◌*◌, ◌-◌, ◌∙◌, ◌⊎◌, ℕ, suc, Bool, false, List, ap}
+use Rattle.std.proofs.Common.{arith, inl, inr, length, replicate, subst, sym}
 use Rattle.std.specs.Prelude.{IsTrue, Some, slice_get, slice_index_or}
 use Rattle.std.proofs.lemmas.Bool.{cases_lt, false≢true}
 use Rattle.std.proofs.lemmas.List.{get_or-replicate, length-replicate}
 use Rattle.std.proofs.lemmas.Option.{get_or_from_slice_get, slice_get_within}
 use Rattle.list_lemmas.proofs.Places.{place_within, within_place}
 use Rattle.bench_net.specs.Statement.{Statement}
-use Rattle.fault_model.specs.Fault.{Fault}
-use Rattle.fault_model.specs.Solution.{Test}
+use Rattle.fault_model.specs.{Fault.Fault, Solution.Test}
 use Rattle.patterns.specs.Tests.{blocks}
 use Rattle.block_sim.specs.Parts.{Parts}
 use Rattle.region_runs.specs.Windows.{IsWindowFor, IsWindowOf}
@@ -82,8 +81,7 @@ list_activates all window from first end s t bit is low high a =
     from_first (inl e) = omega (arith, e.0)
     from_first (inr e) = omega (arith, e)
 
-    after : ((from ≡ 0) × (first ≡ 0)) ⊎ (suc from ≡ first)
-        → (from ≡ 0) ⊎ (0 < t - 64 * from)
+    after : ((from ≡ 0) × (first ≡ 0)) ⊎ (suc from ≡ first) → (from ≡ 0) ⊎ (0 < t - 64 * from)
     after (inl e) = inl e.0
     after (inr e) = inr (omega (arith, e, low))
 
@@ -115,8 +113,7 @@ below_added all window from first end bit old flags is same below added s flag a
     go h (inr le) = inr (list_activates all window from first end s h.0 bit is le h.1 h.2)
 
     back : (t : ℕ) × (t < 64 * end)
-        × ActivatesAt all.circuit all.tests.tests (stem_fault all.list.model s bit) t
-        → IsTrue was.0
+        × ActivatesAt all.circuit all.tests.tests (stem_fault all.list.model s bit) t → IsTrue was.0
         ⊎ IsActivated window.circuit window.tests.tests (stem_fault window.list.model s bit)
     back h = go h (cases_lt h.0 (64 * first))
 

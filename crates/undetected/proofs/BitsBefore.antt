@@ -1,29 +1,21 @@
 -- The fault-free words of a signal say which bits its stem has under the tests of a block.
-use Rattle.std.proofs.Common.{◌≡◌, ◌<◌, ◌+◌, ◌*◌, ◌∙◌, ◌&&◌, ℕ, zero, suc, Bool, true, false}
-use Rattle.std.proofs.Common.{List, ap, arith, length, not, refl, subst, sym}
+use Rattle.std.proofs.Common.{◌≡◌, ◌<◌, ◌+◌, ◌*◌, ◌∙◌, ◌&&◌, ℕ, zero, suc, Bool, true, false, List}
+use Rattle.std.{proofs.Common.{ap, arith, length, not, refl, subst, sym}, specs.Bool.Decides}
 use Rattle.std.specs.Prelude.{◌↔◌, [], None, bit_and, slice_index_or}
-use Rattle.std.specs.Bool.{Decides}
-use Rattle.std.proofs.lemmas.Bool.{false≢true}
-use Rattle.std.proofs.lemmas.Option.{get_or_from_slice_get}
-use Rattle.bench_net.specs.Circuit.{IsWellFormed}
-use Rattle.bench_net.specs.Scan.{names}
-use Rattle.bench_net.specs.Statement.{Statement}
+use Rattle.std.proofs.lemmas.{Bool.false≢true, Option.get_or_from_slice_get}
+use Rattle.bench_net.specs.{Circuit.IsWellFormed, Scan.names, Statement.Statement}
 use Rattle.list_lemmas.proofs.Places.{within_place}
-use Rattle.fault_model.specs.declared.Line.{Line}
+use Rattle.fault_model.specs.{declared.Line.Line, Detection.{HasBit, IsInitialized, LooksBack}}
+use Rattle.fault_model.{specs.Fault.Fault, specs.Solution.Test, proofs.Public.has_solutions}
 use Rattle.fault_model.specs.declared.Line.TheVariants as line
-use Rattle.fault_model.specs.Detection.{HasBit, IsInitialized, LooksBack}
-use Rattle.fault_model.specs.Fault.{Fault}
-use Rattle.fault_model.specs.Solution.{Test}
-use Rattle.fault_model.proofs.Public.{has_solutions}
 use Rattle.undetected.specs.Activation.{ActivatesAt}
-use Rattle.flat_circuit.specs.Words.{IsFaultFreeWord, lane}
 use Rattle.undetected.proofs.WordLanes.{lane_and, lane_ones, later_ones}
+use Rattle.flat_circuit.specs.Words.{IsFaultFreeWord, lane}
 
 -- a lane has the bit of the stem under the lane's test
 pub word_bit : (c : List Statement) (tests : List Test) (block s word k : ℕ) (bit : Bool)
     → IsWellFormed c → s < length (names c) → IsFaultFreeWord c tests block s word → k < 64
-    → (lane word k ≡ bit)
-    ↔ HasBit c (slice_index_or tests (64 * block + k) []) (line.Stem s) bit
+    → (lane word k ≡ bit) ↔ HasBit c (slice_index_or tests (64 * block + k) []) (line.Stem s) bit
 word_bit c tests block s word k bit well within free lt = (there, back)
   where
     test : Test
@@ -83,8 +75,7 @@ looks_at c tests l bit t j e lt =
     back h = subst (λ x. HasBit c x l bit) (sym (get_or_from_slice_get tests t h.0 [] h.1)) h.2
 
 module _ (c : List Statement) (tests : List Test) (block k before fits : ℕ) (l : Line) (bit : Bool)
-    (lt : k < 64) (listed : 64 * block + k < length tests)
-    (bits : (t : ℕ) → suc t ≡ 64 * block + k
+    (lt : k < 64) (listed : 64 * block + k < length tests) (bits : (t : ℕ) → suc t ≡ 64 * block + k
     → (lane before k ≡ bit) ↔ HasBit c (slice_index_or tests t []) l bit)
     (fit : (lane fits k ≡ true) ↔ (lane before k ≡ bit)) where
   -- if there is a test before
@@ -105,8 +96,7 @@ module _ (c : List Statement) (tests : List Test) (block k before fits : ℕ) (l
           (λ h. looks.0 (own.0 (fit.0 h)), λ h. fit.1 (own.1 (looks.1 h)))
 
   -- in the first block lane 0 has none
-  pub fits_back_first : block ≡ 0
-      → Decides (lane (bit_and fits 18446744073709551614) k)
+  pub fits_back_first : block ≡ 0 → Decides (lane (bit_and fits 18446744073709551614) k)
       (IsInitialized c tests l bit (64 * block + k))
   fits_back_first none = go k refl
     where
@@ -131,8 +121,7 @@ module _ (c : List Statement) (tests : List Test) (block k before fits : ℕ) (l
           (fits_back (omega (arith, e)))
 
   -- and in a later one each lane has one
-  pub fits_back_later : 0 < block
-      → Decides (lane (bit_and fits 18446744073709551615) k)
+  pub fits_back_later : 0 < block → Decides (lane (bit_and fits 18446744073709551615) k)
       (IsInitialized c tests l bit (64 * block + k))
   fits_back_later some =
       let same : lane (bit_and fits 18446744073709551615) k ≡ lane fits k =
@@ -143,8 +132,7 @@ module _ (c : List Statement) (tests : List Test) (block k before fits : ℕ) (l
 
 -- the test of a lane activates a fault if it gives the line the other bit, and the test before fits
 pub activating_lane : (c : List Statement) (tests : List Test) (f : Fault) (block k word : ℕ)
-    → 64 * block + k < length tests
-    → Decides (lane word k)
+    → 64 * block + k < length tests → Decides (lane word k)
     (HasBit c (slice_index_or tests (64 * block + k) []) f.line (not f.stuck)
     × LooksBack c tests f.model f.line f.stuck (64 * block + k))
     → Decides (lane word k) (ActivatesAt c tests f (64 * block + k))

@@ -1,14 +1,11 @@
 -- The reasons of the first faults of a list.
-use Rattle.std.proofs.Common.{◌≡◌, ◌∙◌, ◌⊎◌, ℕ, List, [], ◌∷◌, ◌++◌, ap, inl, inr}
-use Rattle.std.proofs.Common.{length, subst, sym}
-use Rattle.std.specs.Prelude.{None, Option, Some, slice_get, unwrap_or}
+use Rattle.std.proofs.Common.{◌≡◌, ◌∙◌, ◌⊎◌, ℕ, List, [], ◌∷◌, ◌++◌, ap, inl, inr, length, subst}
+use Rattle.std.{proofs.Common.sym, specs.Prelude.{None, Option, Some, slice_get, unwrap_or}}
 use Rattle.fault_model.specs.Fault.{Fault, FaultList, faults}
-use Rattle.block_sim.specs.First.{IsFirst}
-use Rattle.block_sim.specs.Parts.{BelongTogether, Parts}
+use Rattle.block_sim.specs.{First.IsFirst, Parts.{BelongTogether, Parts}}
 use Rattle.workers.specs.Verdict.{AreFirsts}
 use Rattle.region_runs.proofs.Public.{pushed}
-use Rattle.undetected.specs.declared.Reason.{Reason}
-use Rattle.undetected.specs.Reasons.{HasReason, IsReason}
+use Rattle.undetected.specs.{declared.Reason.Reason, Reasons.{HasReason, IsReason}}
 
 -- each of the reasons so far is its fault's reason
 abbrev pub AreKnown : Parts → List (Option ℕ) → List (Option Reason) → Type 0
@@ -35,8 +32,7 @@ known_more job firsts reasons fault own count known has i f first reason at foun
         (ap (slice_get firsts) (sym place) ∙ found))
 
 -- the faults of a job are its circuit's faults
-pub list_is : (job : Parts) → BelongTogether job
-    → job.list.list ≡ faults job.list.model job.circuit
+pub list_is : (job : Parts) → BelongTogether job → job.list.list ≡ faults job.list.model job.circuit
 list_is job together = ap (λ (l : FaultList). l.list) together.list
 
 -- a fault without a first test is detected by none, and has its reason
@@ -44,8 +40,7 @@ pub reason_known : (job : Parts) (firsts : List (Option ℕ)) (fault : ℕ) (f :
     (own first : Option ℕ) (reason : Reason) → BelongTogether job
     → AreFirsts job.list.model job.circuit job.tests.tests firsts
     → slice_get job.list.list fault ≡ Some f → slice_get firsts fault ≡ Some own → own ≡ None
-    → slice_get firsts fault ≡ Some first
-    → (IsFirst job.circuit job.tests.tests f None
+    → slice_get firsts fault ≡ Some first → (IsFirst job.circuit job.tests.tests f None
     → IsReason job.circuit job.tests.tests f reason)
     → HasReason job.circuit job.tests.tests f first (Some reason)
 reason_known job firsts fault f own first reason together are at is none found has =

@@ -1,16 +1,12 @@
 -- The lines of the faults of a list are lines of the circuit.
 use Rattle.std.proofs.Common.{◌≡◌, ◌<◌, ℕ, List, ap, length, refl, subst, sym, ◌∙◌}
 use Rattle.std.specs.Prelude.{Contains, IfSome, None, Option, Some, slice_get}
-use Rattle.bench_net.specs.Scan.{definition, names}
+use Rattle.bench_net.{specs.Scan.{definition, names}, proofs.Public.definition_defines}
 use Rattle.bench_net.specs.Statement.{Name, Statement, Input, Output, Gate, Dff}
-use Rattle.bench_net.proofs.Public.{definition_defines}
-use Rattle.list_lemmas.proofs.Members.{contained}
-use Rattle.list_lemmas.proofs.Places.{at_place, place_within, within_place}
-use Rattle.fault_model.specs.declared.Line.{Line}
+use Rattle.list_lemmas.proofs.{Members.contained, Places.{at_place, place_within, within_place}}
+use Rattle.fault_model.specs.{declared.Line.Line, Detection.{argument, name_on}}
+use Rattle.fault_model.{specs.Fault.{FaultList, faults}, proofs.Public.carries}
 use Rattle.fault_model.specs.declared.Line.TheVariants as line
-use Rattle.fault_model.specs.Detection.{argument, name_on}
-use Rattle.fault_model.specs.Fault.{FaultList, faults}
-use Rattle.fault_model.proofs.Public.{carries}
 use Rattle.block_sim.specs.Parts.{BelongTogether, Parts}
 use Rattle.undetected.specs.Reasons.{IsLineIn}
 

@@ -1,10 +1,8 @@
 -- The signals that data pins and OUTPUT lines read, out of what the calls of a circuit give.
-use Rattle.std.proofs.Common.{◌≡◌, ◌∙◌, ℕ, List, ap, refl, sym}
+use Rattle.std.{proofs.Common.{◌≡◌, ◌∙◌, ℕ, List, ap, refl, sym}, specs.Prelude.unwrap_or}
 use Rattle.std.proofs.lemmas.Option.{get_or_from_slice_get, slice_get-map}
 use Rattle.std.specs.Prelude.{None, Option, Some, map, option_map, slice_get, slice_index_or}
-use Rattle.std.specs.Prelude.{unwrap_or}
-use Rattle.bench_net.specs.declared.ScanCell.{ScanCell}
-use Rattle.bench_net.specs.Statement.{Name, Statement}
+use Rattle.bench_net.specs.{declared.ScanCell.ScanCell, Statement.{Name, Statement}}
 use Rattle.bench_net.specs.Scan.{cells, outputs, signal}
 use Rattle.fault_model.specs.declared.Line.TheVariants as line
 use Rattle.fault_model.specs.Detection.{name_on}
@@ -37,7 +35,6 @@ data_signal c scan cell n other all named =
 pub output_signal : (c : List Statement) (outs : List ℕ) (output other : ℕ) (n : Name)
     → outs ≡ map (signal c) (outputs c) → name_on c (line.Out output) ≡ Some n
     → slice_index_or outs output other ≡ signal c n
-output_signal c outs output other n all named =
-    get_or_from_slice_get outs output (signal c n) other
+output_signal c outs output other n all named = get_or_from_slice_get outs output (signal c n) other
     (ap (λ l. slice_get l output) all
     ∙ (slice_get-map (signal c) (outputs c) output ∙ ap (option_map (signal c)) named))

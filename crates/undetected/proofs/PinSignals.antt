@@ -3,10 +3,9 @@ use Rattle.std.proofs.Common.{◌≡◌, ◌<◌, ◌∙◌, ℕ, List, ap, leng
 use Rattle.std.proofs.lemmas.Option.{get_or_from_slice_get, slice_get-map, slice_get_within}
 use Rattle.std.specs.Prelude.{Contains, None, Option, Some, map, option_map, slice_get}
 use Rattle.std.specs.Prelude.{slice_index_or, unwrap_or}
-use Rattle.bench_net.specs.declared.Kind.{Kind}
+use Rattle.bench_net.{specs.declared.Kind.Kind, proofs.Public.{definition_defines, name_of-signal}}
 use Rattle.bench_net.specs.Statement.{Name, Statement, Input, Output, Gate, Dff}
 use Rattle.bench_net.specs.Scan.{definition, gate_line, gate_of, names, signal}
-use Rattle.bench_net.proofs.Public.{definition_defines, name_of-signal}
 use Rattle.fault_model.specs.Detection.{argument}
 
 -- a pin that reads a name is one of a gate

@@ -1,10 +1,8 @@
 -- What the operations on words of a block do in a lane.
 use Rattle.std.proofs.Common.{◌≡◌, ◌<◌, ◌≤◌, ◌^◌, ◌*◌, ◌/◌, ◌%◌, ◌+◌, ◌-◌, ◌∙◌, ◌&&◌, ◌||◌, ◌⊎◌, ℕ}
-use Rattle.std.proofs.Common.{◌≢◌, zero, suc, Bool, true, false, ap, arith, inl, inr, max, min}
-use Rattle.std.proofs.Common.{not, refl, subst, sym}
-use Rattle.std.specs.Prelude.{◌==◌, ◌↔◌, bit_and, bit_or}
-use Rattle.std.specs.Bool.{Decides}
-use Rattle.std.specs.Int.{bit_at, bit_not, trailing_zeros, w64}
+use Rattle.std.proofs.Common.{◌≢◌, zero, suc, Bool, true, false, ap, arith, inl, inr, max, min, not}
+use Rattle.std.{proofs.Common.{refl, subst, sym}, specs.Prelude.{◌==◌, ◌↔◌, bit_and, bit_or}}
+use Rattle.std.specs.{Bool.Decides, Int.{bit_at, bit_not, trailing_zeros, w64}}
 use Rattle.std.specs.Int.Count.{trailing_of_zero}
 use Rattle.std.proofs.lemmas.Bool.{and_parts, cases_eq, cases_lt, eq-eqb, eqb-true, false≢true}
 use Rattle.std.proofs.lemmas.Nat.Bits.{bit_at-lt, bit_at-suc, bit_at-trailing_zeros, bit_at-zero}
@@ -114,8 +112,7 @@ before_first w last = lane_or (w * 2 % 2 ^ 64) (last / 2 ^ 63) 0
 
 pub before_later : (w last k : ℕ) → last < 2 ^ 64 → k < 63
     → lane (bit_or (w * 2 % 2 ^ 64) (last / 2 ^ 63)) (suc k) ≡ lane w k
-before_later w last k fits lt =
-    lane_or (w * 2 % 2 ^ 64) (last / 2 ^ 63) (suc k)
+before_later w last k fits lt = lane_or (w * 2 % 2 ^ 64) (last / 2 ^ 63) (suc k)
     ∙ (ap (λ b. lane (w * 2 % 2 ^ 64) (suc k) || b) (down_later last k fits)
     ∙ (or_none (lane (w * 2 % 2 ^ 64) (suc k)) ∙ up_later w k lt))
 

@@ -1,12 +1,9 @@
 -- The two halves of a word of 128 lanes.
 use Rattle.std.proofs.Common.{◌≡◌, ◌<◌, ◌≤◌, ℕ, ◌+◌, ◌*◌, ◌-◌, ◌/◌, ◌%◌, ◌^◌, refl, sym, ◌∙◌, ap}
-use Rattle.std.proofs.Common.{arith, false, min}
-use Rattle.std.specs.Prelude.{bit_and, bit_or, ◌==◌}
-use Rattle.std.specs.Int.{bit_at}
-use Rattle.std.proofs.lemmas.Grind.{or_before_shift}
-use Rattle.std.proofs.lemmas.Nat.Bits.{bit_at-lt, bit_at-zero, bit_at_above}
-use Rattle.std.proofs.lemmas.Nat.Bits.{bit_at_and, bit_at_ones}
-use Rattle.std.proofs.lemmas.Nat.Bits.{bit_at_cat_high, bit_at_cat_low}
+use Rattle.std.{proofs.Common.{arith, false, min}, specs.Prelude.{bit_and, bit_or, ◌==◌}}
+use Rattle.std.{specs.Int.bit_at, proofs.lemmas.Grind.or_before_shift}
+use Rattle.std.proofs.lemmas.Nat.Bits.{bit_at-lt, bit_at-zero, bit_at_above, bit_at_and}
+use Rattle.std.proofs.lemmas.Nat.Bits.{bit_at_ones, bit_at_cat_high, bit_at_cat_low}
 use Rattle.wide_words.specs.Lanes.{lane}
 
 pub lane_zero : (k : ℕ) → lane 0 k ≡ false
@@ -17,8 +14,7 @@ pub low_lane : (word mask k : ℕ) → mask ≡ 2 ^ 64 - 1 → k < 64
 low_lane word mask k e lt =
     let small = bit_at-lt word k in
     let least : min (bit_at word k) 1 ≡ bit_at word k = omega (arith, small) in
-    ap (λ m. lane (bit_and word m) k) e
-    ∙ ap (λ b. b == 1) (bit_at_and word (2 ^ 64 - 1) k
+    ap (λ m. lane (bit_and word m) k) e ∙ ap (λ b. b == 1) (bit_at_and word (2 ^ 64 - 1) k
     ∙ (ap (min (bit_at word k)) (bit_at_ones 64 k lt) ∙ least))
 
 pub high_lane : (word k : ℕ) → lane (word / 2 ^ 64) k ≡ lane word (64 + k)

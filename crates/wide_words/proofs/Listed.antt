@@ -1,9 +1,8 @@
 -- Words that are erased one by one, as a list names them.
 use Rattle.std.proofs.Common.{◌≡◌, ◌≢◌, ◌<◌, ◌≤◌, ℕ, zero, suc, ◌+◌, [], ◌∷◌, refl, sym, ◌∙◌, ap}
-use Rattle.std.proofs.Common.{List, length, arith, set, inl, inr, ◌⊎◌}
+use Rattle.std.proofs.{Common.{List, length, arith, set, inl, inr, ◌⊎◌}, lemmas.Bool.cases_eq}
 use Rattle.std.specs.Prelude.{All, slice_index_or}
 use Rattle.std.proofs.lemmas.List.{get_or-set_other, get_or_default}
-use Rattle.std.proofs.lemmas.Bool.{cases_eq}
 
 -- written or past the end, it is 0
 erased : (words : List ℕ) (s : ℕ) → slice_index_or (set words s 0) s 0 ≡ 0

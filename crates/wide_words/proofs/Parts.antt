@@ -1,19 +1,13 @@
 -- A number by its parts of 64 bits.
 use Rattle.std.proofs.Common.{◌≡◌, ◌<◌, ◌≤◌, ℕ, zero, suc, ◌+◌, ◌*◌, ◌-◌, ◌/◌, ◌%◌, ◌^◌, refl, sym}
-use Rattle.std.proofs.Common.{◌∙◌, ap, arith, List, [], ◌∷◌, length, get_or, max}
-use Rattle.std.proofs.Common.{true, min}
-use Rattle.std.proofs.Common.{◌≢◌, ◌⊎◌, inl, inr}
-use Rattle.std.specs.Prelude.{All, bit_and, bit_or, bit_xor, ◌==◌}
-use Rattle.std.specs.Int.{bit_at, trailing_zeros, w64}
+use Rattle.std.proofs.Common.{◌∙◌, ap, arith, List, [], ◌∷◌, length, get_or, max, true, min, ◌≢◌}
+use Rattle.std.{proofs.Common.{◌⊎◌, inl, inr}, specs.Prelude.{All, bit_and, bit_or, bit_xor, ◌==◌}}
+use Rattle.std.specs.{Int.{bit_at, trailing_zeros, w64}, Simd.Lanes.{fold_l, number_l, zip2}}
+use Rattle.std.proofs.lemmas.{List.Elements.{All-cons, All-nil}, Bool.{cases_eq, eq-eqb, eqb-true}}
+use Rattle.std.proofs.lemmas.Nat.Bits.{bit_at-zero, bit_at_cat_low, bit_at_cat_high, bit_at_and}
+use Rattle.std.proofs.lemmas.Nat.Bits.{bit_at_or, bit_at_xor, same_from_bits, bit_at-trailing_zeros}
+use Rattle.std.proofs.lemmas.{Nat.{le_or_l, le_or_r, or_lt, xor_lt}, Simd.length-zip2}
 use Rattle.wide_words.specs.Lanes.{lane}
-use Rattle.std.specs.Simd.Lanes.{fold_l, number_l, zip2}
-use Rattle.std.proofs.lemmas.List.Elements.{All-cons, All-nil}
-use Rattle.std.proofs.lemmas.Nat.Bits.{bit_at-zero, bit_at_cat_low, bit_at_cat_high}
-use Rattle.std.proofs.lemmas.Nat.Bits.{bit_at_and, bit_at_or, bit_at_xor, same_from_bits}
-use Rattle.std.proofs.lemmas.Nat.Bits.{bit_at-trailing_zeros}
-use Rattle.std.proofs.lemmas.Nat.{le_or_l, le_or_r, or_lt, xor_lt}
-use Rattle.std.proofs.lemmas.Bool.{cases_eq, eq-eqb, eqb-true}
-use Rattle.std.proofs.lemmas.Simd.{length-zip2}
 use lib.Bits.{and_le_r}
 
 abbrev pub Fit : List ℕ → Type 0
@@ -85,8 +79,7 @@ number_zip f g none closed bits xs ys same some others =
   where
     at : (k : ℕ) → bit_at (number_l 18446744073709551616 (zip2 f xs ys)) k
         ≡ bit_at (f (number_l 18446744073709551616 xs) (number_l 18446744073709551616 ys)) k
-    at k =
-        part_of (zip2 f xs ys) (zip_fits f closed xs ys some others) k
+    at k = part_of (zip2 f xs ys) (zip_fits f closed xs ys some others) k
         ∙ (ap (λ x. bit_at x (k % 64)) (zip_at f none xs ys same (k / 64))
         ∙ (bits (get_or xs (k / 64) 0) (get_or ys (k / 64) 0) (k % 64)
         ∙ (ap (λ b. g b (bit_at (get_or ys (k / 64) 0) (k % 64))) (sym (part_of xs some k))

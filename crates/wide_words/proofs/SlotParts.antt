@@ -1,11 +1,9 @@
 -- The parts of a wide word that has lanes in one slot or the same lanes in each.
-use Rattle.std.proofs.Common.{◌≡◌, ◌≢◌, ◌<◌, ◌≤◌, ℕ, zero, suc, ◌+◌, ◌*◌, ◌/◌, ◌%◌, refl}
-use Rattle.std.proofs.Common.{◌∙◌, ap, arith, List, [], ◌∷◌, get_or, set, inl, inr, ◌⊎◌}
-use Rattle.std.proofs.lemmas.Bool.{cases_lt}
-use Rattle.std.proofs.lemmas.List.{get_or-set_other, get_or-set_same, length-set}
+use Rattle.std.proofs.Common.{◌≡◌, ◌≢◌, ◌<◌, ◌≤◌, ℕ, zero, suc, ◌+◌, ◌*◌, ◌/◌, ◌%◌, refl, ◌∙◌, ap}
+use Rattle.std.proofs.Common.{arith, List, [], ◌∷◌, get_or, set, inl, inr, ◌⊎◌}
+use Rattle.std.proofs.lemmas.{Bool.cases_lt, List.{get_or-set_other, get_or-set_same, length-set}}
 use Rattle.std.proofs.lemmas.Simd.{get_or-replicate}
-use Rattle.wide_words.specs.Lanes.{lane}
-use Rattle.wide_words.specs.Layouts.{one_of}
+use Rattle.wide_words.specs.{Lanes.lane, Layouts.one_of}
 
 abbrev pub zeros : List ℕ
 zeros = 0 ∷ 0 ∷ 0 ∷ 0 ∷ 0 ∷ 0 ∷ 0 ∷ 0 ∷ []
@@ -122,16 +120,14 @@ module _ (l0 h0 l1 h1 l2 h2 l3 h3 : ℕ) where
             let within : k / 128 < 4 = omega (arith, lt) in
             ap (λ p. lane (get_or of_four p 0) (k % 64)) part
             ∙ (ap (λ x. lane x (k % 64)) (low_of (k / 128) within)
-            ∙ (first (k / 128) (k % 64) (omega arith)
-            ∙ ap (lane (one_of a b c d (k / 128))) same))
+            ∙ (first (k / 128) (k % 64) (omega arith) ∙ ap (lane (one_of a b c d (k / 128))) same))
         go (inr up) =
             let part : k / 64 ≡ 2 * (k / 128) + 1 = omega (arith, up) in
             let same : 64 + k % 64 ≡ k % 128 = omega (arith, up) in
             let within : k / 128 < 4 = omega (arith, lt) in
             ap (λ p. lane (get_or of_four p 0) (k % 64)) part
             ∙ (ap (λ x. lane x (k % 64)) (high_of (k / 128) within)
-            ∙ (second (k / 128) (k % 64) (omega arith)
-            ∙ ap (lane (one_of a b c d (k / 128))) same))
+            ∙ (second (k / 128) (k % 64) (omega arith) ∙ ap (lane (one_of a b c d (k / 128))) same))
 
 -- a fact of each of four things is one of that of a slot
 pub each_of : {X Y : Type 0} (P : X → Y → Type 0) (a b c d : X) (p q r s : Y)

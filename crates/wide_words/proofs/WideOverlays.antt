@@ -1,16 +1,12 @@
 -- What an overlay of wide words keeps as a signal differs, in more lanes or at all.
-use Rattle.std.proofs.Common.{◌≡◌, ◌≢◌, ◌<◌, ◌≤◌, ℕ, zero, suc, ◌+◌, ◌-◌, refl, sym, ◌∙◌, ap}
-use Rattle.std.proofs.Common.{List, [], ◌∷◌, ◌++◌, length, map, set, arith, inl, inr, ◌⊎◌, take}
-use Rattle.std.proofs.Common.{length-append}
-use Rattle.std.specs.Prelude.{All, slice_index_or}
-use Rattle.std.proofs.Math.Seq.{get_or-append_seam}
-use Rattle.std.proofs.lemmas.Bool.{cases_eq, cases_lt}
+use Rattle.std.proofs.Common.{◌≡◌, ◌≢◌, ◌<◌, ◌≤◌, ℕ, zero, suc, ◌+◌, ◌-◌, refl, sym, ◌∙◌, ap, List}
+use Rattle.std.proofs.Common.{[], ◌∷◌, ◌++◌, length, map, set, arith, inl, inr, ◌⊎◌, take}
+use Rattle.std.{proofs.Common.length-append, specs.Prelude.{All, slice_index_or}}
+use Rattle.std.proofs.{Math.Seq.get_or-append_seam, lemmas.Bool.{cases_eq, cases_lt}}
 use Rattle.std.proofs.lemmas.List.{get_or-map, get_or-set_other, get_or-set_same}
-use Rattle.std.proofs.lemmas.List.{get_or_append_left}
-use Rattle.std.proofs.lemmas.List.{length-set}
+use Rattle.std.proofs.lemmas.List.{get_or_append_left, length-set}
 use Rattle.std.proofs.lemmas.List.Elements.{All-append, All-cons, All-nil}
-use Rattle.wide_words.specs.Wide.{number}
-use Rattle.wide_words.specs.WideOverlay.{IsWideOverlay, number_at, overlaid}
+use Rattle.wide_words.specs.{Wide.number, WideOverlay.{IsWideOverlay, number_at, overlaid}}
 use Rattle.wide_words.specs.declared.wide.Wide.{Wide}
 use Rattle.wide_words.proofs.Zeros.{index_zero, one_less, zero_counted, zeros_all}
 
@@ -57,20 +53,16 @@ mapped_all : (f h : ℕ → ℕ) (old new : List ℕ) → length new ≡ length 
 mapped_all f h [] [] same all = refl
 mapped_all f h [] (y ∷ new) same all = absurd (omega (arith, same))
 mapped_all f h (x ∷ old) [] same all = absurd (omega (arith, same))
-mapped_all f h (x ∷ old) (y ∷ new) same all =
-    ap (λ n. n ∷ map h new) (all 0 (omega arith))
+mapped_all f h (x ∷ old) (y ∷ new) same all = ap (λ n. n ∷ map h new) (all 0 (omega arith))
     ∙ ap (λ l. f x ∷ l)
     (mapped_all f h old new (omega (arith, same)) (λ t lt. all (suc t) (omega (arith, lt))))
 
 mapped_one : (f h : ℕ → ℕ) (old new : List ℕ) (s v : ℕ) → length new ≡ length old
-    → s < length old → h (slice_index_or new s 0) ≡ v
-    → ((t : ℕ) → t < length old → t ≢ s
-    → h (slice_index_or new t 0) ≡ f (slice_index_or old t 0))
-    → map h new ≡ set (map f old) s v
+    → s < length old → h (slice_index_or new s 0) ≡ v → ((t : ℕ) → t < length old → t ≢ s
+    → h (slice_index_or new t 0) ≡ f (slice_index_or old t 0)) → map h new ≡ set (map f old) s v
 mapped_one f h [] new s v same lt here all = absurd (omega (arith, lt))
 mapped_one f h (x ∷ old) [] s v same lt here all = absurd (omega (arith, same))
-mapped_one f h (x ∷ old) (y ∷ new) zero v same lt here all =
-    ap (λ n. n ∷ map h new) here
+mapped_one f h (x ∷ old) (y ∷ new) zero v same lt here all = ap (λ n. n ∷ map h new) here
     ∙ ap (λ l. v ∷ l) (mapped_all f h old new (omega (arith, same))
     (λ t below. all (suc t) (omega (arith, below)) (omega arith)))
 mapped_one f h (x ∷ old) (y ∷ new) (suc s) v same lt here all =
@@ -107,8 +99,7 @@ module _ (words : List Wide) (index changed : List ℕ) (most listed : ℕ)
   -- a place of the list is that of one signal alone
   own_place : (s t : ℕ) → slice_index_or index s 0 ≢ 0
       → slice_index_or index t 0 ≡ slice_index_or index s 0 → t ≡ s
-  own_place s t ne e =
-      sym (o.back t (λ z. ne (sym e ∙ z)))
+  own_place s t ne e = sym (o.back t (λ z. ne (sym e ∙ z)))
       ∙ (ap (λ p. slice_index_or changed (p - 1) 0) e ∙ o.back s ne)
 
   -- ---- there is room for one more
@@ -134,8 +125,7 @@ module _ (words : List Wide) (index changed : List ℕ) (most listed : ℕ)
 
       pub change_view : overlaid (words ++ w ∷ []) next ≡ set (overlaid words index) s (number w)
       change_view = mapped_one (number_at words) (number_at (words ++ w ∷ [])) index next s (number
-          w)
-          long lt (ap (number_at (words ++ w ∷ [])) here ∙ number_new words w)
+          w) long lt (ap (number_at (words ++ w ∷ [])) here ∙ number_new words w)
           (λ t below ne. ap (number_at (words ++ w ∷ [])) (elsewhere t ne)
           ∙ number_kept words w (slice_index_or index t 0) (o.within t))
 

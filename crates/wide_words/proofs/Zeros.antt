@@ -1,7 +1,6 @@
 -- How many numbers of a list are 0.
-use Rattle.std.proofs.Common.{◌≡◌, ◌≢◌, ◌<◌, ℕ, zero, suc, ◌+◌, refl, ap}
-use Rattle.std.proofs.Common.{List, [], ◌∷◌, length, arith, set}
-use Rattle.std.specs.Prelude.{All, slice_index_or}
+use Rattle.std.proofs.Common.{◌≡◌, ◌≢◌, ◌<◌, ℕ, zero, suc, ◌+◌, refl, ap, List, [], ◌∷◌, length}
+use Rattle.std.{proofs.Common.{arith, set}, specs.Prelude.{All, slice_index_or}}
 use Rattle.std.proofs.lemmas.List.Sums.{sum_by-set, sum_by-cons, get_or-le-sum_by}
 use Rattle.wide_words.specs.WideOverlay.{zero_weight, zeros}
 

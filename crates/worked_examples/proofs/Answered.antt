@@ -1,17 +1,12 @@
 -- The responses of a scan cell and of C17 to three tests each, at the relation.
-use Rattle.std.proofs.Common.{inl, inr}
+use Rattle.std.{proofs.Common.{inl, inr}, specs.Prelude.{Some, None, slice_get, slice_index_or}}
 use Rattle.std.specs.Prelude.{◌≡◌, ℕ, zero, suc, Bool, true, false, List, [], ◌∷◌, map, codes, refl}
-use Rattle.std.specs.Prelude.{Some, None, slice_get, slice_index_or}
-use Rattle.bench_net.specs.declared.Kind.TheVariants.{And, Nand}
-use Rattle.bench_net.specs.Statement.{Name}
-use Rattle.bench_net.specs.Scan.{observers}
+use Rattle.bench_net.specs.{declared.Kind.TheVariants.{And, Nand}, Statement.Name, Scan.observers}
 use Rattle.list_lemmas.proofs.Members.{contained}
 use Rattle.fault_model.specs.Solution.{Test, Solves, shows, value}
-use Rattle.patterns.specs.Making.{test_text}
-use Rattle.patterns.specs.Tests.{TestList}
+use Rattle.patterns.specs.{Making.test_text, Tests.TestList}
 use Rattle.block_sim.specs.Responses.{AreResponses}
-use Rattle.worked_examples.proofs.Circuits.{c17, scan_cell}
-use Rattle.worked_examples.proofs.Listings.{tests, text}
+use Rattle.worked_examples.proofs.{Circuits.{c17, scan_cell}, Listings.{tests, text}}
 
 -- y = AND(a, q) is the output, and q captures it: the bits of both in the solution
 shown : (t : Test) (v : Name → Bool) → Solves scan_cell t None v
@@ -62,8 +57,7 @@ g11 t = nand (bit_of t 2) (bit_of t 3)
 abbrev g16 : Test → Bool
 g16 t = nand (bit_of t 1) (g11 t)
 
-c17_shown : (t : Test) (v : Name → Bool) → Solves c17 t None v
-    → map (shows None v) (observers c17)
+c17_shown : (t : Test) (v : Name → Bool) → Solves c17 t None v → map (shows None v) (observers c17)
     ≡ nand (nand (bit_of t 0) (bit_of t 2)) (g16 t) ∷ nand (g16 t) (nand (g11 t) (bit_of t 4)) ∷ []
 c17_shown t v s =
     let i1 : v (codes "G1") ≡ bit_of t 0 = s.source 0 (codes "G1") refl in

@@ -2,9 +2,8 @@
 -- the result of the relations.
 use Rattle.std.specs.Prelude.{◌≡◌, ℕ, List, [], ◌∷◌, ◌++◌, codes, refl, Ok, Err}
 use Rattle.bench_net.specs.declared.Kind.TheVariants.{And, Nand, Xnor, Not, Buff}
-use Rattle.bench_net.specs.declared.BenchFault.{BenchFault}
+use Rattle.bench_net.specs.declared.BenchFault.{BenchFault, TheVariants.Empty}
 use Rattle.bench_net.specs.declared.BenchFault.TheVariants.{Syntax, Redefined, Undefined, Cycle}
-use Rattle.bench_net.specs.declared.BenchFault.TheVariants.{Empty}
 use Rattle.bench_net.specs.Statement.{Statement, Input, Output, Gate, Dff}
 use Rattle.bench_net.specs.Refusal.{IsAccepted, IsRefused}
 use Rattle.bench_net.proofs.Public.{answer_text, accepted_by, refused_by}

@@ -1,10 +1,8 @@
 -- Chains of next faults, which a plain program follows.
-use Rattle.std.proofs.Common.{◌≡◌, ℕ, zero, suc, refl, List}
-use Rattle.std.specs.Prelude.{Option, Some, None}
+use Rattle.std.{proofs.Common.{◌≡◌, ℕ, zero, suc, refl, List}, specs.Prelude.{Option, Some, None}}
 use Rattle.std.specs.Option.{option_map_or}
 use Rattle.bench_net.specs.Statement.{Statement}
-use Rattle.fault_model.specs.Collapse.{Reaches, Represents, here, next, onward}
-use Rattle.fault_model.specs.Fault.{Fault}
+use Rattle.fault_model.specs.{Collapse.{Reaches, Represents, here, next, onward}, Fault.Fault}
 
 -- the fault after at most this many next faults
 abbrev pub last_within : ℕ → List Statement → Fault → Fault

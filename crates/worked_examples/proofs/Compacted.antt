@@ -3,16 +3,12 @@
 use Rattle.std.proofs.Common.{arith, inl, inr, subst, sym}
 use Rattle.std.specs.Prelude.{◌≡◌, ◌<◌, ℕ, zero, suc, Bool, true, false, List, [], ◌∷◌, codes, refl}
 use Rattle.std.specs.Prelude.{Contains, Some, None, slice_get, unwrap_or}
-use Rattle.bench_net.specs.declared.Kind.TheVariants.{Buff}
-use Rattle.bench_net.specs.declared.Sink.{Sink}
-use Rattle.bench_net.specs.Statement.{Name}
+use Rattle.bench_net.specs.{declared.Kind.TheVariants.Buff, declared.Sink.Sink, Statement.Name}
 use Rattle.bench_net.specs.Scan.{observers}
 use Rattle.list_lemmas.proofs.Members.{Among, among, contained}
 use Rattle.fault_model.specs.declared.Line.TheVariants as line
-use Rattle.fault_model.specs.declared.Model.TheVariants.{StuckAt}
-use Rattle.fault_model.specs.Fault.{Fault, faults}
-use Rattle.fault_model.specs.Solution.{Test, Detects, shows}
-use Rattle.fault_model.specs.Detection.{DetectsAt, LooksBack}
+use Rattle.fault_model.specs.{declared.Model.TheVariants.StuckAt, Fault.{Fault, faults}}
+use Rattle.fault_model.specs.{Solution.{Test, Detects, shows}, Detection.{DetectsAt, LooksBack}}
 use Rattle.fault_model.proofs.Public.{detects, listed_model}
 use Rattle.compaction.specs.Compaction.{Covers, IsCompaction, IsFirstForSome, IsLastForSome}
 use Rattle.compaction.specs.Compaction.{IsNeeded, row_of}

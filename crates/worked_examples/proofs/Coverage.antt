@@ -2,15 +2,11 @@
 -- program.
 use Rattle.std.specs.Prelude.{◌≡◌, ℕ, true, List, [], ◌∷◌, map, Option, Some, None, codes, refl}
 use Rattle.std.specs.Fmt.{digits}
-use Rattle.fault_model.specs.declared.Model.TheVariants.{StuckAt}
-use Rattle.fault_model.specs.Fault.{faults}
-use Rattle.fault_model.specs.Collapse.{Collapsed}
+use Rattle.fault_model.specs.{declared.Model.TheVariants.StuckAt, Fault.faults, Collapse.Collapsed}
 use Rattle.fault_model.proofs.Public.{first_within}
-use Rattle.report.specs.declared.contents.Lines.TheVariants.{Undetected}
-use Rattle.report.specs.Report.{whole_report}
+use Rattle.report.specs.{declared.contents.Lines.TheVariants.Undetected, Report.whole_report}
 use Rattle.report.specs.Curve.{curve, curve_text}
-use Rattle.worked_examples.proofs.Circuits.{and_of_two, c17}
-use Rattle.worked_examples.proofs.Listings.{tests, text}
+use Rattle.worked_examples.proofs.{Circuits.{and_of_two, c17}, Listings.{tests, text}}
 
 -- the first tests by the plain program
 abbrev firsts : List (List ℕ) → List (Option ℕ)
@@ -24,8 +20,7 @@ undetected_and_classes : whole_report StuckAt and_of_two classes
     (firsts (codes "00" ∷ codes "01" ∷ codes "11" ∷ [])) (record {
       lines = Undetected;
       classes = true;
-    })
-    ≡ text (codes "stem b sa1 none" ∷ codes "5 of 6 (83.33%)" ∷ codes
+    }) ≡ text (codes "stem b sa1 none" ∷ codes "5 of 6 (83.33%)" ∷ codes
     "3 of 4 classes (75.00%)" ∷ [])
 unfolding digits
 undetected_and_classes = refl
@@ -55,8 +50,7 @@ c17_classes = record {
 }
 
 c17_undetected_and_classes : whole_report StuckAt c17 c17_classes (c17_firsts (codes "11111" ∷ []))
-    (record { lines = Undetected; classes = true })
-    ≡ text (
+    (record { lines = Undetected; classes = true }) ≡ text (
     codes "stem G1 sa1 none" ∷ codes "stem G2 sa0 none" ∷ codes "stem G2 sa1 none" ∷
     codes "stem G3 sa1 none" ∷ codes "pin G10 2 sa1 none" ∷ codes "pin G11 1 sa1 none" ∷
     codes "stem G6 sa1 none" ∷ codes "stem G7 sa0 none" ∷ codes "stem G7 sa1 none" ∷
@@ -70,8 +64,7 @@ c17_undetected_and_classes = refl
 
 -- test 1 is test 0 again, and test 3 is the first for no fault
 abbrev seven : List (Option ℕ)
-seven =
-    Some 0 ∷ Some 5 ∷ Some 4 ∷ Some 2 ∷ Some 0 ∷ Some 4 ∷ Some 0 ∷ None ∷ Some 0 ∷ Some 4 ∷
+seven = Some 0 ∷ Some 5 ∷ Some 4 ∷ Some 2 ∷ Some 0 ∷ Some 4 ∷ Some 0 ∷ None ∷ Some 0 ∷ Some 4 ∷
     Some 0 ∷ None ∷ None ∷ Some 2 ∷ Some 2 ∷ Some 0 ∷ Some 4 ∷ Some 0 ∷ Some 4 ∷ Some 0 ∷ None ∷
     Some 0 ∷ Some 0 ∷ Some 4 ∷ Some 2 ∷ Some 4 ∷ Some 0 ∷ Some 6 ∷ Some 0 ∷ None ∷ Some 0 ∷
     Some 2 ∷ Some 4 ∷ Some 0 ∷ []

@@ -1,25 +1,18 @@
 -- The relations at the worked circuits: texts that are accepted, lists that are well-formed or
 -- stuck, solutions, detected faults.
-use Rattle.std.proofs.Common.{lit≤, arith}
+use Rattle.std.{proofs.Common.{lit≤, arith}, specs.Prelude.{Some, None, bytes_eq}}
 use Rattle.std.specs.Prelude.{◌≡◌, ◌<◌, ℕ, zero, suc, true, false, List, [], ◌∷◌, map, codes, refl}
-use Rattle.std.specs.Prelude.{Some, None, bytes_eq}
 use Rattle.std.specs.List.{position_or_len}
 use Rattle.bench_net.specs.declared.Sink.TheVariants as sink
-use Rattle.bench_net.specs.declared.BenchFault.TheVariants.{Syntax}
-use Rattle.bench_net.specs.Statement.{Name}
-use Rattle.bench_net.specs.Text.{Spells, Open, Word}
-use Rattle.bench_net.specs.Scan.{sinks}
-use Rattle.bench_net.specs.Circuit.{IsWellFormed, IsStuck}
+use Rattle.bench_net.specs.{declared.BenchFault.TheVariants.Syntax, Statement.Name, Scan.sinks}
+use Rattle.bench_net.specs.{Text.{Spells, Open, Word}, Circuit.{IsWellFormed, IsStuck}}
 use Rattle.bench_net.specs.Refusal.{IsRefused, IsSyntaxFault}
 use Rattle.bench_net.proofs.Public.{complete_states, is_in, stuck}
-use Rattle.fault_model.specs.declared.Model.TheVariants.{StuckAt}
+use Rattle.fault_model.specs.{declared.Model.TheVariants.StuckAt, Solution.{Solves, Detects}}
+use Rattle.fault_model.{specs.Collapse.Represents, proofs.Public.{bit_within, solves, detects}}
 use Rattle.fault_model.specs.declared.Line.TheVariants as line
-use Rattle.fault_model.specs.Solution.{Solves, Detects}
-use Rattle.fault_model.specs.Collapse.{Represents}
-use Rattle.worked_examples.proofs.Chains.{represents}
-use Rattle.fault_model.proofs.Public.{bit_within, solves, detects}
+use Rattle.worked_examples.proofs.{Chains.represents, Bench.odd_spelling}
 use Rattle.worked_examples.proofs.Bench.{c17_text, inverter_loop_text, scan_cell_text, self_cell}
-use Rattle.worked_examples.proofs.Bench.{odd_spelling}
 use Rattle.worked_examples.proofs.Circuits.{c17, inverter_loop, buffer, output_and_inverter}
 use Rattle.worked_examples.proofs.Circuits.{xor_of_one, scan_cell, cell_of_itself, cycle_with_tail}
 
@@ -51,15 +44,7 @@ by_hand = (
   refl,
   tt,
   tt,
-  (
-    [],
-    codes " # x",
-    refl,
-    refl,
-    ((λ e. cc), refl),
-    tt,
-    (codes " ", codes "# x", refl, refl, refl),
-  ),
+  ([], codes " # x", refl, refl, ((λ e. cc), refl), tt, (codes " ", codes "# x", refl, refl, refl)),
 )
 
 -- the last line has an error, and it is the lowest
@@ -157,5 +142,4 @@ scan_cell_sinks = refl
 -- the chain of `stem G6 sa0` in c17 ends at `stem G11 sa1`
 c17_chain : Represents c17 (record { model = StuckAt; line = line.Stem 3; stuck = false })
     (record { model = StuckAt; line = line.Stem 6; stuck = true })
-c17_chain = represents 13 c17 (record { model = StuckAt; line = line.Stem 3; stuck = false })
-    refl
+c17_chain = represents 13 c17 (record { model = StuckAt; line = line.Stem 3; stuck = false }) refl

@@ -1,10 +1,7 @@
 -- Bits that a test gives a line, by the plain program.
-use Rattle.std.proofs.Common.{◌≡◌, ℕ, Bool, List, true}
-use Rattle.std.specs.Prelude.{Some, None}
+use Rattle.std.{proofs.Common.{◌≡◌, ℕ, Bool, List, true}, specs.Prelude.{Some, None}}
 use Rattle.bench_net.specs.Statement.{Name, Statement}
-use Rattle.fault_model.specs.declared.Line.{Line}
-use Rattle.fault_model.specs.Detection.{HasBit, name_on}
-use Rattle.fault_model.specs.Solution.{Test}
+use Rattle.fault_model.specs.{declared.Line.Line, Detection.{HasBit, name_on}, Solution.Test}
 use Rattle.fault_model.proofs.Public.{bit_within, is_solved, solves}
 
 -- a bit that the plain program finds on a line is there, if its valuation solves

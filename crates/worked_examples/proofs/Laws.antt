@@ -1,11 +1,8 @@
 -- The class law and the law of the table, computed over all tests of small circuits.
 use Rattle.std.specs.Prelude.{◌≡◌, ℕ, zero, suc, Bool, true, false, ◌&&◌, List, [], ◌∷◌, ◌++◌, map}
-use Rattle.std.specs.Prelude.{length, refl, Some}
-use Rattle.std.specs.List.{list_all}
-use Rattle.bench_net.specs.Statement.{Statement}
-use Rattle.bench_net.specs.Scan.{observers, sources}
-use Rattle.fault_model.specs.declared.Model.TheVariants.{StuckAt}
-use Rattle.fault_model.specs.Fault.{Fault, faults}
+use Rattle.std.specs.{Prelude.{length, refl, Some}, List.list_all}
+use Rattle.bench_net.specs.{Statement.Statement, Scan.{observers, sources}}
+use Rattle.fault_model.specs.{declared.Model.TheVariants.StuckAt, Fault.{Fault, faults}}
 use Rattle.fault_model.specs.Solution.{Test, shows}
 use Rattle.fault_model.proofs.Public.{rep, bit_within, same_bit, is_solved}
 use Rattle.worked_examples.proofs.Circuits.{c17, and_of_two, inverter_loop, buffer, nor_of_two}

@@ -1,22 +1,17 @@
 -- The ledger's definitions on worked lists of calls.
 use Rattle.std.specs.Prelude.{◌≡◌, ℕ, zero, suc, slice_index_or, List, [], ◌∷◌, ◌++◌, map, refl}
 use Rattle.std.specs.Prelude.{Some, None}
-use Rattle.patterns.specs.declared.Outcome.{Outcome}
+use Rattle.patterns.specs.{declared.Outcome.Outcome, Least.{Table, least}, Tests.{blocks, size_of}}
 use Rattle.patterns.specs.declared.Outcome.TheVariants as outcome
-use Rattle.patterns.specs.Least.{Table, least}
-use Rattle.patterns.specs.Tests.{blocks, size_of}
 use Rattle.fault_ledger.specs.declared.Refusal.TheVariants.{NoSuchWorker, Holding, NothingHeld}
 use Rattle.fault_ledger.specs.declared.Refusal.TheVariants.{BadOutcome, NoEarlierHit, NoSuchClass}
-use Rattle.fault_ledger.specs.declared.Claim.TheVariants.{Piece, Exhausted}
-use Rattle.fault_ledger.specs.declared.Call.{Call}
+use Rattle.fault_ledger.specs.declared.{Claim.TheVariants.{Piece, Exhausted}, Call.Call}
 use Rattle.fault_ledger.specs.declared.Reply.TheVariants.{Claimed, Done, Refused, Status, Finish}
-use Rattle.fault_ledger.specs.declared.Status.TheVariants.{Settled, Waiting}
-use Rattle.fault_ledger.specs.declared.Finish.TheVariants as finish_is
+use Rattle.fault_ledger.specs.declared.{Status.TheVariants.{Settled, Waiting}, Event.Event}
 use Rattle.fault_ledger.specs.declared.LedgerFault.TheVariants.{NoWorkers, TooManyWorkers}
 use Rattle.fault_ledger.specs.declared.LedgerFault.TheVariants.{TooManyPieces}
-use Rattle.fault_ledger.specs.declared.Event.{Event}
-use Rattle.fault_ledger.specs.Answer.{replies, after_all, IsLegal}
-use Rattle.fault_ledger.specs.Face.{shape_of, shape_fault}
+use Rattle.fault_ledger.specs.{Answer.{replies, after_all, IsLegal}, Face.{shape_of, shape_fault}}
+use Rattle.fault_ledger.specs.declared.Finish.TheVariants as finish_is
 
 claims_of : List Call
 claims_of = Call.Claim 0 ∷ Call.Claim 1 ∷ Call.Claim 2 ∷ Call.Claim 3 ∷ Call.Claim 4 ∷ Call.Claim

@@ -1,16 +1,11 @@
 -- The listings and reports of the worked circuits under both fault models, by the plain programs.
 use Rattle.std.specs.Prelude.{◌≡◌, ◌==◌, ℕ, true, false, List, [], ◌∷◌, ◌++◌, map, length, codes}
-use Rattle.std.specs.Prelude.{refl, flat_map, replicate}
-use Rattle.std.specs.Fmt.{digits}
-use Rattle.fault_model.specs.declared.Model.{Model}
-use Rattle.fault_model.specs.declared.Model.TheVariants.{StuckAt, Transition}
-use Rattle.fault_model.specs.Fault.{faults}
-use Rattle.fault_model.specs.Solution.{Test}
-use Rattle.fault_model.specs.Collapse.{representatives}
+use Rattle.std.specs.{Prelude.{refl, flat_map, replicate}, Fmt.digits}
+use Rattle.fault_model.specs.declared.Model.{Model, TheVariants.{StuckAt, Transition}}
+use Rattle.fault_model.specs.{Fault.faults, Solution.Test, Collapse.representatives}
 use Rattle.fault_model.proofs.Public.{class_of, first_within}
 use Rattle.bench_net.specs.Statement.{Statement}
-use Rattle.report.specs.declared.contents.Lines.{Lines}
-use Rattle.report.specs.declared.contents.Lines.TheVariants.{All, Omitted}
+use Rattle.report.specs.declared.contents.Lines.{Lines, TheVariants.{All, Omitted}}
 use Rattle.report.specs.Report.{listing, report}
 use Rattle.worked_examples.proofs.Circuits.{c17, and_of_two, inverter_loop, eleven_inputs, buffer}
 use Rattle.worked_examples.proofs.Circuits.{nor_of_two, output_and_inverter, xor_of_one, scan_cell}
@@ -166,8 +161,7 @@ unfolding digits
 odd_text_listing = refl
 
 -- transition faults
-and_of_two_transitions :
-    the_report Transition and_of_two
+and_of_two_transitions : the_report Transition and_of_two
     (tests (codes "00" ∷ codes "01" ∷ codes "10" ∷ codes "11" ∷ [])) All ≡ text (
     codes "stem a str none" ∷ codes "stem a stf none" ∷ codes "stem b str 3" ∷
     codes "stem b stf 2" ∷ codes "stem z str 3" ∷ codes "stem z stf none" ∷
@@ -195,17 +189,14 @@ output_and_inverter_transitions :
 unfolding digits
 output_and_inverter_transitions = refl
 
-output_and_inverter_transition_listing :
-    the_listing Transition output_and_inverter ≡ text (
+output_and_inverter_transition_listing : the_listing Transition output_and_inverter ≡ text (
     codes "stem a str class 0" ∷ codes "stem a stf class 1" ∷ codes "pin z 1 str class 5" ∷
     codes "pin z 1 stf class 4" ∷ codes "out 1 str class 2" ∷ codes "out 1 stf class 3" ∷
-    codes "stem z str class 4" ∷ codes "stem z stf class 5" ∷ codes "8 faults in 6 classes" ∷
-    [])
+    codes "stem z str class 4" ∷ codes "stem z stf class 5" ∷ codes "8 faults in 6 classes" ∷ [])
 unfolding digits
 output_and_inverter_transition_listing = refl
 
-c17_transitions :
-    the_report Transition c17 (tests (codes "11111" ∷ [])) Omitted ≡ text (
+c17_transitions : the_report Transition c17 (tests (codes "11111" ∷ [])) Omitted ≡ text (
     codes "0 of 34 (0.00%)" ∷ [])
 unfolding digits
 c17_transitions = refl

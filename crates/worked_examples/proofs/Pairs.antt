@@ -1,22 +1,17 @@
 -- Launch and capture pairs at the worked circuits: only the second of a pair detects, by the plain
 -- program and at the relation.
-use Rattle.std.proofs.Common.{◌*◌, ◌+◌, arith}
+use Rattle.std.{proofs.Common.{◌*◌, ◌+◌, arith}, specs.Prelude.{replicate, Option, Some, None}}
 use Rattle.std.specs.Prelude.{◌≡◌, ℕ, true, false, List, [], ◌∷◌, ◌++◌, map, length, codes, refl}
-use Rattle.std.specs.Prelude.{replicate, Option, Some, None}
 use Rattle.std.specs.Fmt.{digits}
 use Rattle.bench_net.specs.Statement.{Statement}
 use Rattle.fault_model.specs.declared.Line.TheVariants as line
 use Rattle.fault_model.specs.declared.Model.TheVariants.{Transition, TransitionPairs}
-use Rattle.fault_model.specs.Fault.{faults}
-use Rattle.fault_model.specs.Solution.{Test}
-use Rattle.fault_model.specs.Collapse.{representatives}
+use Rattle.fault_model.specs.{Fault.faults, Solution.Test, Collapse.representatives}
 use Rattle.fault_model.specs.Detection.{DetectsAt, IsSecondOfPair}
 use Rattle.fault_model.proofs.Public.{class_of, detects, first_within}
-use Rattle.worked_examples.proofs.GivenBits.{has_bit}
-use Rattle.report.specs.Report.{report}
-use Rattle.report.specs.declared.contents.Lines.TheVariants.{Omitted}
-use Rattle.worked_examples.proofs.Circuits.{c17, buffer, output_and_inverter}
+use Rattle.worked_examples.proofs.{GivenBits.has_bit, Circuits.{c17, buffer, output_and_inverter}}
 use Rattle.worked_examples.proofs.Listings.{text, tests}
+use Rattle.report.specs.{Report.report, declared.contents.Lines.TheVariants.Omitted}
 
 abbrev firsts : List Statement → List Test → List (Option ℕ)
 firsts c ts = map (first_within 4 c ts) (faults TransitionPairs c)

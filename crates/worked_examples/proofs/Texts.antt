@@ -26,8 +26,7 @@ byte_first = ([], refl)
 -- blanks at the ends, comments, empty lines, a carriage return at a line end and at the end of the
 -- text
 odd_rows : HasTests (codes " 10" ++ 9 ∷ codes "# x" ++ 13 ∷ 10 ∷ 10 ∷ codes "   # only a comment"
-    ++ 10 ∷ codes "01#" ++ 10 ∷ codes "11" ++ 13 ∷ []) 2
-    (record {
+    ++ 10 ∷ codes "01#" ++ 10 ∷ codes "11" ++ 13 ∷ []) 2 (record {
       width = 2;
       tests = (true ∷ false ∷ []) ∷ (false ∷ true ∷ []) ∷ (true ∷ true ∷ []) ∷ [];
     })
@@ -58,8 +57,7 @@ too_many = refl
 
 orders : map (λ l. order_faults (text (l ∷ [])) 4)
     (codes "000000003" ∷ codes "0000000003" ∷ codes "0 1" ∷ codes "-1" ∷ codes "4" ∷ codes
-    "3 # x" ∷ [])
-    ≡ [] ∷ (order.BadNumber 1 ∷ []) ∷ (order.BadNumber 1 ∷ []) ∷ (order.BadNumber
+    "3 # x" ∷ []) ≡ [] ∷ (order.BadNumber 1 ∷ []) ∷ (order.BadNumber 1 ∷ []) ∷ (order.BadNumber
     1 ∷ []) ∷ (order.NoSuchWorker 1 ∷ []) ∷ [] ∷ []
 orders = refl
 

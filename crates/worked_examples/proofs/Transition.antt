@@ -4,11 +4,8 @@ use Rattle.std.specs.Prelude.{◌≡◌, ◌==◌, ℕ, true, false, List, [], �
 use Rattle.std.specs.Prelude.{refl, replicate, Option, Some, None}
 use Rattle.bench_net.specs.Statement.{Statement}
 use Rattle.fault_model.specs.declared.Line.TheVariants as line
-use Rattle.fault_model.specs.declared.Model.TheVariants.{Transition}
-use Rattle.fault_model.specs.Fault.{faults}
-use Rattle.fault_model.specs.Solution.{Test}
-use Rattle.fault_model.specs.Collapse.{representatives}
-use Rattle.fault_model.specs.Detection.{DetectsAt, name_on}
+use Rattle.fault_model.specs.{declared.Model.TheVariants.Transition, Fault.faults, Solution.Test}
+use Rattle.fault_model.specs.{Collapse.representatives, Detection.{DetectsAt, name_on}}
 use Rattle.fault_model.proofs.Public.{class_of, detects, first_within}
 use Rattle.worked_examples.proofs.GivenBits.{has_bit}
 use Rattle.worked_examples.proofs.Circuits.{c17, and_of_two, buffer, output_and_inverter, scan_cell}

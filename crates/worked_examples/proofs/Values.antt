@@ -1,21 +1,16 @@
 -- Values of the remaining relations: classes, levels, words, entries.
-use Rattle.std.proofs.Common.{arith, ap, subst, inl, inr}
+use Rattle.std.{proofs.Common.{arith, ap, subst, inl, inr}, specs.Int.bit_at}
 use Rattle.std.specs.Prelude.{◌≡◌, ◌<◌, ℕ, zero, suc, ◌+◌, ◌*◌, Bool, true, false, List, [], ◌∷◌}
 use Rattle.std.specs.Prelude.{map, codes, refl, Some, None, slice_get, unwrap_or, Contains}
 use Rattle.std.specs.Prelude.{bytes_eq, slice_index_or, if◌then◌else◌}
-use Rattle.bench_net.specs.declared.Kind.{Kind}
-use Rattle.bench_net.specs.Statement.{Name, Statement, Gate}
+use Rattle.bench_net.specs.{declared.Kind.Kind, Statement.{Name, Statement, Gate}}
 use Rattle.bench_net.specs.Level.{AreLevels, IsLevelOrder, GoesBefore, greatest}
 use Rattle.list_lemmas.proofs.Members.{Among, among, contained}
-use Rattle.fault_model.specs.declared.Model.TheVariants.{StuckAt}
-use Rattle.fault_model.specs.declared.Line.TheVariants as line
-use Rattle.fault_model.specs.Fault.{Fault, faults}
+use Rattle.fault_model.specs.{declared.Model.TheVariants.StuckAt, Fault.{Fault, faults}}
 use Rattle.fault_model.specs.Collapse.{IsClassOf, AreClassesOf, Represents, representatives}
-use Rattle.worked_examples.proofs.Chains.{represents}
-use Rattle.patterns.specs.Tests.{bit, as_number}
-use Rattle.patterns.specs.Least.{below}
-use Rattle.std.specs.Int.{bit_at}
-use Rattle.worked_examples.proofs.Circuits.{buffer}
+use Rattle.fault_model.specs.declared.Line.TheVariants as line
+use Rattle.worked_examples.proofs.{Chains.represents, Circuits.buffer}
+use Rattle.patterns.specs.{Tests.{bit, as_number}, Least.below}
 
 abbrev stem : ℕ → Bool → Fault
 stem s b = record { model = StuckAt; line = line.Stem s; stuck = b }

@@ -1,36 +1,28 @@
 -- The meaning of a closed ledger for the run.
 use Rattle.std.proofs.Common.{◌≡◌, ◌<◌, ◌≤◌, ◌+◌, ◌⊎◌, inl, inr, ℕ, zero, suc, List, [], ◌∷◌, map}
 use Rattle.std.proofs.Common.{length, All, Option, None, refl, sym, ap, ◌∙◌, subst, arith}
-use Rattle.std.proofs.lemmas.Bool.{cases_lt}
-use Rattle.std.proofs.lemmas.Option.{get_or_from_slice_get}
-use Rattle.patterns.specs.Tests.{blocks}
-use Rattle.patterns.specs.Least.{from_up}
+use Rattle.std.proofs.lemmas.{Bool.cases_lt, Option.get_or_from_slice_get}
+use Rattle.patterns.specs.{Tests.blocks, Least.from_up}
 use Rattle.block_sim.specs.Parts.{Parts, BelongTogether}
-use Rattle.fault_ledger.specs.declared.Shape.{Shape}
-use Rattle.fault_ledger.specs.declared.PieceState.{PieceState}
-use Rattle.fault_ledger.specs.declared.PieceState.TheVariants as state
-use Rattle.fault_ledger.specs.declared.Status.{Status}
-use Rattle.fault_ledger.specs.declared.Status.TheVariants as status_is
-use Rattle.fault_ledger.specs.declared.Finish.TheVariants as finish_is
+use Rattle.fault_ledger.specs.declared.{Shape.Shape, PieceState.PieceState, Status.Status}
 use Rattle.fault_ledger.specs.History.{History, ContinuesWithout, block_count, piece_at}
-use Rattle.fault_ledger.specs.History.{piece_count, claims, held_by, entry}
-use Rattle.fault_ledger.specs.Answer.{IsLegal}
+use Rattle.fault_ledger.specs.{History.{piece_count, claims, held_by, entry}, Answer.IsLegal}
 use Rattle.fault_ledger.specs.Settled.{status, status_from, finish, finish_from}
 use Rattle.fault_ledger.specs.Seats.{ClosedFace, Closes, Place, Sitter, HoldsAll, closed_face}
 use Rattle.fault_ledger.proofs.Public.{held_goes_on, claims_past, legal_claims, ClearBelow}
 use Rattle.fault_ledger.proofs.Public.{skipped_not_first}
-use Rattle.workers.specs.Settling.{AreSettled, IsShapeOf, shape_for}
-use Rattle.workers.specs.Work.{AllReportTruly, AreBack, HasRested, HasRun, IsStopped}
-use Rattle.workers.specs.Stops.{Stops}
-use Rattle.workers.specs.Work.{ReportsTruly, Returns, WaitsFor}
+use Rattle.fault_ledger.specs.declared.PieceState.TheVariants as state
+use Rattle.fault_ledger.specs.declared.Status.TheVariants as status_is
+use Rattle.fault_ledger.specs.declared.Finish.TheVariants as finish_is
+use Rattle.workers.specs.{Settling.{AreSettled, IsShapeOf, shape_for}, Work.{Returns, WaitsFor}}
+use Rattle.workers.specs.Work.{AllReportTruly, AreBack, HasRested, HasRun, IsStopped, ReportsTruly}
+use Rattle.workers.{specs.Stops.Stops, proofs.SettledLedgers.finished_settled}
 use Rattle.workers.proofs.SettledLedgers.{none_open, all_settled, settled_goes_on, settled_finished}
-use Rattle.workers.proofs.SettledLedgers.{finished_settled}
 use Rattle.workers.specs.Verdict.{AreFirsts, verdicts}
-use Rattle.list_lemmas.proofs.Places.{within_place}
 use Rattle.workers.proofs.TrueReports.{truly_goes_on, all_true, firsts_truly}
+use Rattle.list_lemmas.proofs.Places.{within_place}
 
-module _ (job : Parts) (p : Place) (P : Type 0) (S : Stops)
-    (seats : List Sitter)
+module _ (job : Parts) (p : Place) (P : Type 0) (S : Stops) (seats : List Sitter)
     (h : History) (back : AreBack job p P S seats) (holds : HoldsAll h seats) where
   -- the seat of a worker
   seat_of : (w : ℕ) → w < p.shape.workers → (a : Sitter) × ContinuesWithout w h a.seen
@@ -75,10 +67,8 @@ module _ (job : Parts) (p : Place) (P : Type 0) (S : Stops)
           (sym x.1.1) (claims_past x.1.0 x.0.seen) in
           let few = legal_claims s h l in
           all_settled s h l (none_open s h l (omega arith) (free sure))
-      go (inr settled) =
-          settled_goes_on s 0 s.classes h x.0.seen x.1
-          (subst (λ (q : Place). AreSettled q.shape x.0.seen q.shape.classes) x.2.place_is
-          settled)
+      go (inr settled) = settled_goes_on s 0 s.classes h x.0.seen x.1
+          (subst (λ (q : Place). AreSettled q.shape x.0.seen q.shape.classes) x.2.place_is settled)
 
   -- if a class waits, each worker was stopped, or all pieces are claimed
   pub each_ended : IsLegal p.shape h → (class block : ℕ)
@@ -130,8 +120,7 @@ waits_within s class h x l lt (suc n) b e clear w = go (entry (piece_at s class 
 
     go : (y : PieceState) → entry (piece_at s class b) h ≡ y
         → status_from b (y ∷ map (λ k. entry (piece_at s class k) h) (from_up (b + 1) n))
-        ≡ status_is.Waiting x
-        → (entry (piece_at s class b) h ≡ state.Clear
+        ≡ status_is.Waiting x → (entry (piece_at s class b) h ≡ state.Clear
         → status_from (b + 1) (map (λ k. entry (piece_at s class k) h) (from_up (b + 1) n))
         ≡ status_is.Waiting x → x < block_count s) → x < block_count s
     go state.Clear q v i = i q v
@@ -205,10 +194,8 @@ module _ (job : Parts) (workers : ℕ) (p : Place) (P : Type 0) (S : Stops)
           legal = subst (λ s. IsLegal s closes.0) is closes.1;
           truly = each_worker (λ s w. ReportsTruly job s w closes.0 [])
               (each_truly job p P S seats closes.0 back closes.2);
-          ended = each_worker (λ s w. IsStopped s S w closes.0
-              ⊎ (claims closes.0 ≡ piece_count s))
-              (each_ended job p P S seats closes.0 back closes.2 closes.1 class block
-              (sym fin));
+          ended = each_worker (λ s w. IsStopped s S w closes.0 ⊎ (claims closes.0 ≡ piece_count s))
+              (each_ended job p P S seats closes.0 back closes.2 closes.1 class block (sym fin));
           waiting = subst (λ s. finish s closes.0 ≡ finish_is.Waiting class block) is (sym fin);
         },
       )
@@ -228,8 +215,7 @@ module _ (job : Parts) (workers : ℕ) (p : Place) (P : Type 0) (S : Stops)
             (each_truly job p P S seats closes.0 back closes.2);
       }
 
-module _ (job : Parts) (workers : ℕ) (closed : ClosedFace)
-    (run : HasRun job workers closed) where
+module _ (job : Parts) (workers : ℕ) (closed : ClosedFace) (run : HasRun job workers closed) where
   is_shape : IsShapeOf job closed.shape
   is_shape = subst (λ s. IsShapeOf job s) (sym run.shape) (record { classes = refl; tests = refl })
 
@@ -242,12 +228,10 @@ module _ (job : Parts) (workers : ℕ) (closed : ClosedFace)
       → ((h : History) → IsLegal closed.shape h → closed ≡ closed_face closed.shape h
       → firsts ≡ verdicts closed.shape h job.classes.class_of)
       → AreFirsts job.list.model job.circuit job.tests.tests firsts
-  run_firsts firsts b told =
-      subst (AreFirsts job.list.model job.circuit job.tests.tests)
+  run_firsts firsts b told = subst (AreFirsts job.list.model job.circuit job.tests.tests)
       (sym (told run.history run.legal run.shows))
       (firsts_truly job closed.shape run.history b is_shape run.legal
-      (all_true job closed.shape run.history run.legal run.truly)
-      run_settled)
+      (all_true job closed.shape run.history run.legal run.truly) run_settled)
 
 -- every seat came back to its ledger
 pub back_placed : (job : Parts) (p : Place) (P : Type 0) (S : Stops)

@@ -2,30 +2,22 @@
 use Rattle.std.proofs.Common.{◌≡◌, ◌≢◌, ◌<◌, ◌≤◌, ◌+◌, ◌-◌, ◌*◌, ◌⊎◌, inl, inr, ℕ, zero, suc, Bool}
 use Rattle.std.proofs.Common.{true, false, cond, List, [], ◌∷◌, ◌++◌, length, map, All, Option}
 use Rattle.std.proofs.Common.{Some, None, refl, sym, ap, ◌∙◌, subst, arith, le-ltb, lt-ltb, eq-eqb}
-use Rattle.std.proofs.Common.{ne_eqb, append_assoc, append-nil, add-one}
-use Rattle.std.specs.Prelude.{count_by, is_some}
-use Rattle.std.specs.Option.{option_map_or}
-use Rattle.std.proofs.lemmas.Bool.{cases_lt}
-use Rattle.std.proofs.lemmas.List.Elements.{All-append, All-cons, All-nil}
-use Rattle.std.proofs.lemmas.List.{map-append}
+use Rattle.std.proofs.{Common.{ne_eqb, append_assoc, append-nil, add-one}, lemmas.Bool.cases_lt}
+use Rattle.std.specs.{Prelude.{count_by, is_some}, Option.option_map_or}
+use Rattle.std.proofs.lemmas.List.{Elements.{All-append, All-cons, All-nil}, map-append}
 use Rattle.std.proofs.lemmas.List.Sums.{sum_by-append, sum_by-cons}
-use Rattle.patterns.specs.Tests.{max_pieces, blocks}
-use Rattle.patterns.specs.Least.{Table, from_up, below}
+use Rattle.patterns.specs.{Tests.{max_pieces, blocks}, Least.{Table, from_up, below}}
+use Rattle.patterns.proofs.Public.{length-below, get_or-below}
 use Rattle.block_sim.specs.Parts.{Parts, BelongTogether, piece_count as job_pieces}
-use Rattle.fault_ledger.specs.declared.Event.{Event}
-use Rattle.fault_ledger.specs.declared.Shape.{Shape}
+use Rattle.fault_ledger.specs.{declared.Event.Event, declared.Shape.Shape, Face.{Face, face}}
 use Rattle.fault_ledger.specs.History.{History, piece_count, block_count, class_of, block_of}
 use Rattle.fault_ledger.specs.History.{claims, held_by}
 use Rattle.fault_ledger.specs.Answer.{IsLegal, IsTrueTo, has_earlier_hit}
-use Rattle.fault_ledger.specs.Face.{Face, face}
 use Rattle.fault_ledger.proofs.Public.{claim_accepted, report_accepted, drop_accepted, legal_claims}
 use Rattle.workers.specs.Schedule.{IsTableOf, drops, is_drop, move, move_holding, after_moves}
-use Rattle.workers.specs.Schedule.{turns}
-use Rattle.workers.specs.Schedule.{schedule_history}
-use Rattle.workers.specs.Settling.{AreSettled, IsShapeOf}
+use Rattle.workers.specs.{Schedule.{turns, schedule_history}, Settling.{AreSettled, IsShapeOf}}
 use Rattle.workers.proofs.SettledLedgers.{all_settled, none_open}
 use Rattle.workers.proofs.ScheduleMoves.{move_legal, move_true}
-use Rattle.patterns.proofs.Public.{length-below, get_or-below}
 
 pub moved_append : (t : Table) (s : Shape) (h : History) (xs ys : List ℕ)
     → after_moves t s h (xs ++ ys) ≡ after_moves t s (after_moves t s h xs) ys
@@ -108,8 +100,7 @@ claim_holders h u n lt free =
       holders_total h n,
       holders_total (Event.Claim u ∷ h) n,
       total_less (λ w. is_one (held_by w h))
-          (λ w. is_one (held_by w (Event.Claim u ∷ h))) u n lt others
-          own,
+          (λ w. is_one (held_by w (Event.Claim u ∷ h))) u n lt others own,
     )
 
 drop_holders : (h : History) (u n p : ℕ) → u < n → held_by u h ≡ Some p
@@ -125,8 +116,7 @@ drop_holders h u n p lt here =
       holders_total h n,
       holders_total (Event.Drop u ∷ h) n,
       total_less (λ w. is_one (held_by w (Event.Drop u ∷ h)))
-          (λ w. is_one (held_by w h)) u n lt others
-          own,
+          (λ w. is_one (held_by w h)) u n lt others own,
     )
 
 -- each claim adds an event and a holder, each report or drop an event in place of a holder
@@ -198,8 +188,7 @@ count_holders h (suc n) =
     ∙ ap (λ (l : List (Option ℕ)). count_by is_some l)
     (map-append (λ w. held_by w h) (below n) (n ∷ []))
     ∙ sum_by-append (λ (o : Option ℕ). cond (is_some o) 1 0) (map (λ w. held_by w h) (below n))
-    (held_by n h ∷ [])
-    ∙ add (count_holders h n) (one (held_by n h))
+    (held_by n h ∷ []) ∙ add (count_holders h n) (one (held_by n h))
   where
     one : (o : Option ℕ) → count_by is_some (o ∷ []) ≡ is_one o
     one None = refl
@@ -237,16 +226,14 @@ idle t s h w l same = go (held_by w h) refl
             ∙ ap (λ x. cond x (Event.Drop w ∷ h)
             (Event.Report w (t (class_of s p) (block_of s p)) ∷ h)) q) ∙ same)
         pick false q = longer (Event.Report w (t (class_of s p) (block_of s p)))
-            (sym (ap (move_holding t s h w) e
-            ∙ ap (λ x. cond x (Event.Drop w ∷ h)
+            (sym (ap (move_holding t s h w) e ∙ ap (λ x. cond x (Event.Drop w ∷ h)
             (Event.Report w (t (class_of s p) (block_of s p)) ∷ h)) q) ∙ same)
 
 -- The effect of moves: the face of the ledger, the number of dropped pieces, and whether there was
 -- an event. If there was none, no worker that moved has anything left to do.
 abbrev pub Done : Table → Shape → History → List ℕ → Face → ℕ → Bool → Type 0
 Done t s h xs new skipped changed = (new ≡ face s (after_moves t s h xs))
-    × IsLegal s (after_moves t s h xs)
-    × (drops (after_moves t s h xs) ≡ drops h + skipped)
+    × IsLegal s (after_moves t s h xs) × (drops (after_moves t s h xs) ≡ drops h + skipped)
     × (changed ≡ true → length h < length (after_moves t s h xs))
     × (changed ≡ false → (after_moves t s h xs ≡ h)
     × All (λ w. (claims h ≡ piece_count s) × (held_by w h ≡ None)) xs)
@@ -275,12 +262,10 @@ module _ (t : Table) (s : Shape) (h : History) (xs : List ℕ) (w : ℕ) (f new 
   -- a move that adds an event
   pub done_more : (e : Event) (m : ℕ) → move t s (after_moves t s h xs) w ≡ e ∷ after_moves t s h xs
       → m ≡ n + cond (is_drop e) 1 0 → Done t s h (xs ++ w ∷ []) new m true
-  done_more e m adds count =
-      subst (λ x. (new ≡ face s x) × IsLegal s x × (drops x ≡ drops h + m)
+  done_more e m adds count = subst (λ x. (new ≡ face s x) × IsLegal s x × (drops x ≡ drops h + m)
       × (true ≡ true → length h < length x)
       × (true ≡ false → (x ≡ h) × All (λ w. (claims h ≡ piece_count s) × (held_by w h ≡ None)) (xs
-      ++ w ∷ [])))
-      (sym (moved_last t s h xs w))
+      ++ w ∷ []))) (sym (moved_last t s h xs w))
       (moves, legal, ap (λ (x : History). drops x) adds ∙ sum, (λ q. longer), (λ q. absurd (cc)))
     where
       sum : drops (e ∷ g) ≡ drops h + m
@@ -301,9 +286,7 @@ module _ (t : Table) (s : Shape) (h : History) (xs : List ℕ) (w : ℕ) (f new 
       subst (λ x. (new ≡ face s x) × IsLegal s x × (drops x ≡ drops h + n) × (changed ≡ true
       → length h < length x)
       × (changed ≡ false → (x ≡ h) × All (λ w. (claims h ≡ piece_count s) × (held_by w h ≡ None))
-      (xs
-      ++ w ∷ [])))
-      (sym (moved_last t s h xs w ∙ adds)) (
+      (xs ++ w ∷ []))) (sym (moved_last t s h xs w ∙ adds)) (
         moves ∙ ap (face s) adds,
         was.1,
         was.2,
@@ -345,8 +328,7 @@ over_moved : (t : Table) (s : Shape) (h : History) (xs : List ℕ) → claims h 
     → after_moves t s h xs ≡ h
 over_moved t s h [] all free a = refl
 over_moved t s h (x ∷ xs) all free a =
-    let e : move t s h x ≡ h =
-    ap (move_holding t s h x) (free x (a 0 x (omega arith)))
+    let e : move t s h x ≡ h = ap (move_holding t s h x) (free x (a 0 x (omega arith)))
     ∙ ap (λ b. cond b (Event.Claim x ∷ h) h) (le-ltb (claims h) (piece_count s) (omega (
       arith,
       all,
@@ -402,8 +384,7 @@ module _ (t : Table) (s : Shape) (h : History) (f new : Face) (n m : ℕ)
       × IsLegal s (after_moves t s h (turns s.workers (2 * piece_count s)))
       × (drops (after_moves t s h (turns s.workers (2 * piece_count s))) ≡ drops h + (n + m))
       × AreSettled s (after_moves t s h (turns s.workers (2 * piece_count s))) s.classes
-  turned_over some turn =
-      subst (λ x. (new ≡ face s x) × IsLegal s x × (drops x ≡ drops h + (n + m))
+  turned_over some turn = subst (λ x. (new ≡ face s x) × IsLegal s x × (drops x ≡ drops h + (n + m))
       × AreSettled s x s.classes) (sym whole) (
         turn.0 ∙ ap (face s) stays,
         was.legal,
@@ -434,8 +415,7 @@ module _ (t : Table) (s : Shape) (h : History) (f new : Face) (n m : ℕ)
       sum = let a = was.few in let b = events_few s h1 was.legal in omega (arith, a, b)
 
       whole : after_moves t s h (turns s.workers (2 * piece_count s)) ≡ h1
-      whole =
-          ap (λ k. after_moves t s h (turns s.workers k)) sum
+      whole = ap (λ k. after_moves t s h (turns s.workers k)) sum
           ∙ ap (after_moves t s h) (turns_sum s.workers was.turns_done rest)
           ∙ moved_append t s h (turns s.workers was.turns_done) (turns s.workers rest)
           ∙ over_moved t s h1 (turns s.workers rest) all free (all_turns s.workers rest)
@@ -509,8 +489,7 @@ scheduled job t s moves f second third n m changed is begins played turned =
     let a = played_on job t s f second [] moves n changed (ap (λ (x : Face). x.shape) begins) is tt
     begins played in
     let b = turned_on job t s second third (after_moves t s [] moves) m
-    (ap (λ (x : Face). x.shape) a.0)
-    is a.1 a.0 turned in
+    (ap (λ (x : Face). x.shape) a.0) is a.1 a.0 turned in
     subst (λ (h : History). (third ≡ face s h) × IsLegal s h × (drops h ≡ n + m)
     × AreSettled s h s.classes)
     (sym (moved_append t s [] moves (turns s.workers (2 * piece_count s))))

@@ -1,43 +1,31 @@
 -- The moves of a schedule, as events of the ledger.
 use Rattle.std.proofs.Common.{◌≡◌, ◌<◌, ℕ, Bool, true, false, cond, nat_lt, ◌∷◌, ◌++◌, length}
 use Rattle.std.proofs.Common.{Option, Some, None, refl, sym, ap, ◌∙◌, subst, lt-ltb}
-use Rattle.std.specs.Prelude.{unwrap_or}
-use Rattle.std.specs.Option.{option_map}
-use Rattle.std.proofs.Math.Nat.{mod-lt}
+use Rattle.std.{specs.Prelude.unwrap_or, specs.Option.option_map, proofs.Math.Nat.mod-lt}
 use Rattle.fault_model.specs.Collapse.{representatives}
-use Rattle.patterns.specs.declared.Outcome.{Outcome}
-use Rattle.patterns.specs.Tests.{blocks, size_of}
-use Rattle.patterns.specs.Least.{Table}
-use Rattle.block_sim.specs.First.{IsTrueOutcome}
-use Rattle.block_sim.specs.Parts.{Parts, BelongTogether}
+use Rattle.patterns.specs.{declared.Outcome.Outcome, Tests.{blocks, size_of}, Least.Table}
+use Rattle.block_sim.specs.{First.IsTrueOutcome, Parts.{Parts, BelongTogether}}
 use Rattle.block_sim.proofs.Public.{one_outcome}
-use Rattle.fault_ledger.specs.declared.Event.{Event}
-use Rattle.fault_ledger.specs.declared.Shape.{Shape}
-use Rattle.fault_ledger.specs.declared.Call.TheVariants as call
-use Rattle.fault_ledger.specs.declared.Claim.TheVariants as claim_is
-use Rattle.fault_ledger.specs.declared.Refusal.{Refusal}
-use Rattle.fault_ledger.specs.declared.Refusal.TheVariants.{NoSuchWorker}
+use Rattle.fault_ledger.specs.declared.{Event.Event, Shape.Shape, Refusal.Refusal}
+use Rattle.fault_ledger.specs.{declared.Refusal.TheVariants.NoSuchWorker, Seats.class_and_block}
 use Rattle.fault_ledger.specs.declared.Reply.TheVariants.{Claimed, Done, Refused}
 use Rattle.fault_ledger.specs.History.{History, piece_count, class_of, block_of, claims, held_by}
 use Rattle.fault_ledger.specs.Answer.{IsLegal, Gives, IsTrueTo, events_of, after, answer, fits_size}
 use Rattle.fault_ledger.specs.Answer.{has_earlier_hit, claim_reply}
-use Rattle.fault_ledger.specs.Seats.{class_and_block}
 use Rattle.fault_ledger.proofs.Public.{drop_answer, report_answer, held_piece, legal_after}
 use Rattle.fault_ledger.proofs.Public.{block_of-below, some_class}
-use Rattle.workers.specs.Schedule.{IsTableOf, move, move_holding}
-use Rattle.workers.specs.Settling.{IsShapeOf}
+use Rattle.fault_ledger.specs.declared.Call.TheVariants as call
+use Rattle.fault_ledger.specs.declared.Claim.TheVariants as claim_is
+use Rattle.workers.specs.{Schedule.{IsTableOf, move, move_holding}, Settling.IsShapeOf}
 use Rattle.workers.proofs.TrueOutcomes.{class_count, true_fits}
 
 -- a claim is the move of a worker that holds nothing
 pub claim_moves : (t : Table) (s : Shape) (h : History) (w : ℕ) → w < s.workers → held_by w h ≡ None
     → after s h (call.Claim w) ≡ move t s h w
-claim_moves t s h w among free =
-    ap (λ x. events_of (call.Claim w)
-    (cond x (claim_reply s h (held_by w h)) (Refused NoSuchWorker)) ++ h)
-    (lt-ltb w s.workers among)
+claim_moves t s h w among free = ap (λ x. events_of (call.Claim w)
+    (cond x (claim_reply s h (held_by w h)) (Refused NoSuchWorker)) ++ h) (lt-ltb w s.workers among)
     ∙ ap (λ x. events_of (call.Claim w) (claim_reply s h x) ++ h) free
-    ∙ same (nat_lt (claims h) (piece_count s))
-    ∙ ap (move_holding t s h w) (sym free)
+    ∙ same (nat_lt (claims h) (piece_count s)) ∙ ap (move_holding t s h w) (sym free)
   where
     same : (b : Bool) → events_of (call.Claim w)
         (cond b (Claimed (claim_is.Piece (class_of s (claims h)) (block_of s (claims h))))
@@ -47,8 +35,7 @@ claim_moves t s h w among free =
 
 -- a drop is the move of a worker whose piece comes after a hit
 pub drop_moves : (t : Table) (s : Shape) (h : History) (w p : ℕ) → w < s.workers
-    → held_by w h ≡ Some p
-    → has_earlier_hit s h p ≡ true → after s h (call.Drop w) ≡ move t s h w
+    → held_by w h ≡ Some p → has_earlier_hit s h p ≡ true → after s h (call.Drop w) ≡ move t s h w
 drop_moves t s h w p among here hit =
     ap (λ r. events_of (call.Drop w) r ++ h) (drop_answer s h w p among here hit)
     ∙ sym (ap (move_holding t s h w) here
@@ -89,8 +76,7 @@ move_legal job t s h w b is each l among = go (held_by w h) refl
         pick : (x : Bool) → has_earlier_hit s h p ≡ x → IsLegal s (move t s h w)
         pick true q = subst (IsLegal s) (drop_moves t s h w p among e q)
             (legal_after s h (call.Drop w) l)
-        pick false q =
-            subst (IsLegal s) (report_moves t s h w p among e q
+        pick false q = subst (IsLegal s) (report_moves t s h w p among e q
             (true_fits job s (class_of s p) (block_of s p) (t (class_of s p) (block_of s p))
             is.tests (each (class_of s p) (block_of s p) c d)))
             (legal_after s h (call.Report w (t (class_of s p) (block_of s p))) l)
@@ -142,8 +128,7 @@ told_range job s h w class block is l e =
 
 -- a drop that failed found no hit
 drop_missed : (s : Shape) (h : History) (w p : ℕ) (r : Refusal) → w < s.workers
-    → held_by w h ≡ Some p
-    → Refused r ≡ answer s h (call.Drop w) → has_earlier_hit s h p ≡ false
+    → held_by w h ≡ Some p → Refused r ≡ answer s h (call.Drop w) → has_earlier_hit s h p ≡ false
 drop_missed s h w p r among here e = go (has_earlier_hit s h p) refl
   where
     go : (b : Bool) → has_earlier_hit s h p ≡ b → has_earlier_hit s h p ≡ false
@@ -167,8 +152,7 @@ reported_moves job t s h w class block o r b is each l among e refused truth =
     let at : t class block ≡ t (class_of s p.0) (block_of s p.0) = ap (λ n. t n block) p.2
     ∙ ap (t (class_of s p.0)) p.3 in
     let fits = subst (λ n. fits_size (size_of s.tests n) (t (class_of s p.0) (block_of s p.0))
-    ≡ true) p.3
-    (subst (λ x. fits_size (size_of s.tests block) x ≡ true) at
+    ≡ true) p.3 (subst (λ x. fits_size (size_of s.tests block) x ≡ true) at
     (true_fits job s class block (t class block) is.tests own)) in
     ap (λ x. after s h (call.Report w x)) (same ∙ at)
     ∙ report_moves t s h w p.0 among p.1 (drop_missed s h w p.0 r among p.1 refused) fits

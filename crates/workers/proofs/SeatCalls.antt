@@ -1,36 +1,25 @@
 -- The events that calls on a seat add to a worker's work.
 use Rattle.std.proofs.Common.{◌≡◌, ◌<◌, ◌≤◌, ◌+◌, ◌-◌, ℕ, Bool, true, false, cond, [], ◌∷◌, ◌++◌}
 use Rattle.std.proofs.Common.{Option, Some, None, refl, sym, ap, ◌∙◌, subst, arith, append_assoc}
-use Rattle.std.proofs.Common.{eq-eqb, ◌⊎◌, inl, inr}
-use Rattle.patterns.specs.declared.Outcome.{Outcome}
-use Rattle.patterns.specs.Tests.{size_of}
-use Rattle.block_sim.specs.First.{IsTrueOutcome}
-use Rattle.block_sim.specs.Parts.{Parts}
-use Rattle.fault_ledger.specs.declared.Event.{Event}
-use Rattle.fault_ledger.specs.declared.Shape.{Shape}
-use Rattle.fault_ledger.specs.declared.Claim.TheVariants as claim_is
-use Rattle.fault_ledger.specs.declared.Reply.{Reply}
-use Rattle.fault_ledger.specs.declared.Reply.TheVariants.{Claimed, Done, Refused}
-use Rattle.fault_ledger.specs.declared.Refusal.{Refusal}
+use Rattle.std.proofs.{Common.{eq-eqb, ◌⊎◌, inl, inr}, Math.Nat.mod-lt}
+use Rattle.patterns.specs.{declared.Outcome.Outcome, Tests.size_of}
+use Rattle.block_sim.specs.{First.IsTrueOutcome, Parts.Parts}
+use Rattle.fault_ledger.specs.declared.{Event.Event, Shape.Shape, Reply.Reply, Refusal.Refusal}
+use Rattle.fault_ledger.specs.declared.{Reply.TheVariants.{Claimed, Done, Refused}, Status.Status}
 use Rattle.fault_ledger.specs.declared.Refusal.TheVariants.{NothingHeld, NoEarlierHit}
-use Rattle.fault_ledger.specs.declared.Call.TheVariants as call
 use Rattle.fault_ledger.specs.History.{History, ContinuesWithout, NoneOf, block_count, piece_at}
 use Rattle.fault_ledger.specs.History.{piece_count, class_of, block_of, claims, held_by}
 use Rattle.fault_ledger.specs.Answer.{IsLegal, fits_size, has_earlier_hit}
 use Rattle.fault_ledger.specs.Seats.{Place, Sitter, IsSitter, Sees, Makes, Stays, FindsNoHit}
 use Rattle.fault_ledger.proofs.Public.{claims_past, held_goes_on, claim_accepted, claim_answer}
 use Rattle.fault_ledger.proofs.Public.{report_answer, at-of, block_of-below, some_class}
-use Rattle.fault_ledger.proofs.Public.{class_of-at, block_of-at, drop_at, held_sees}
-use Rattle.fault_ledger.proofs.Public.{sitter_sees}
-use Rattle.std.proofs.Math.Nat.{mod-lt}
-use Rattle.fault_ledger.specs.declared.Status.{Status}
+use Rattle.fault_ledger.proofs.Public.{class_of-at, block_of-at, drop_at, held_sees, sitter_sees}
+use Rattle.fault_ledger.specs.declared.Claim.TheVariants as claim_is
+use Rattle.fault_ledger.specs.declared.Call.TheVariants as call
 use Rattle.fault_ledger.specs.declared.Status.TheVariants as status_is
-use Rattle.workers.specs.Settling.{AreSettled, IsShapeOf}
-use Rattle.workers.specs.Stops.{Stops}
-use Rattle.workers.specs.Work.{EachReport, GivesTrue, IsStopped, ReportsTruly, WasNoDrop}
-use Rattle.workers.specs.Work.{Works}
-use Rattle.workers.proofs.TrueOutcomes.{true_fits}
-use Rattle.workers.proofs.SettledLedgers.{settled_past}
+use Rattle.workers.specs.{Settling.{AreSettled, IsShapeOf}, Stops.Stops}
+use Rattle.workers.specs.Work.{EachReport, GivesTrue, IsStopped, ReportsTruly, WasNoDrop, Works}
+use Rattle.workers.proofs.{TrueOutcomes.true_fits, SettledLedgers.settled_past}
 
 -- if no event is the worker's, none is its report
 pub reports_none : (H : Outcome → History → Type 0) (w : ℕ) (newer earlier : History)
@@ -62,8 +51,7 @@ reports_append H w (Event.Report v o ∷ later) newer earlier t u = (
 reports_append H w (Event.Drop v ∷ later) newer earlier t u =
     reports_append H w later newer earlier t u
 
-pub truly_append : (job : Parts) (s : Shape) (w : ℕ)
-    (later newer earlier : History)
+pub truly_append : (job : Parts) (s : Shape) (w : ℕ) (later newer earlier : History)
     → ReportsTruly job s w newer earlier → ReportsTruly job s w later (newer ++ earlier)
     → ReportsTruly job s w (later ++ newer) earlier
 truly_append job s w later newer earlier t u =
@@ -80,8 +68,7 @@ without_twice : (w : ℕ) (c b a : History) → ContinuesWithout w c b → Conti
     → ContinuesWithout w c a
 without_twice w c b a x y = (
   x.0 ++ y.0,
-  x.1 ∙ ap (λ h. x.0 ++ h) y.1
-      ∙ sym (append_assoc x.0 y.0 a),
+  x.1 ∙ ap (λ h. x.0 ++ h) y.1 ∙ sym (append_assoc x.0 y.0 a),
   none_append w x.0 y.0 x.2 y.2,
 )
 
@@ -91,8 +78,7 @@ no_drop_later : (s : Shape) (w : ℕ) (later earlier : History) → ContinuesWit
 no_drop_later s w later earlier c n = (n.0, without_twice w later earlier n.0 c n.1, n.2)
 
 -- a seat that does nothing
-pub works_same : (job : Parts) (a : Sitter) → IsSitter a
-    → Works job a a
+pub works_same : (job : Parts) (a : Sitter) → IsSitter a → Works job a a
 works_same job a i = record {
   place = refl;
   worker = refl;
@@ -103,8 +89,7 @@ works_same job a i = record {
 }
 
 -- work after work
-pub works_twice : (job : Parts) (a b d : Sitter) → Works job a b
-    → Works job b d → Works job a d
+pub works_twice : (job : Parts) (a b d : Sitter) → Works job a b → Works job b d → Works job a d
 works_twice job a b d x y = record {
   place = y.place ∙ x.place;
   worker = y.worker ∙ x.worker;
@@ -118,9 +103,7 @@ works_twice job a b d x y = record {
 }
 
 -- looks
-pub sees_works : (job : Parts) (a b : Sitter) (ended : Bool)
-    → Sees a ended b
-    → Works job a b
+pub sees_works : (job : Parts) (a b : Sitter) (ended : Bool) → Sees a ended b → Works job a b
 sees_works job a b ended s = record {
   place = ap (λ (x : Sitter). x.place) s.seat;
   worker = ap (λ (x : Sitter). x.worker) s.seat;
@@ -132,8 +115,7 @@ sees_works job a b ended s = record {
 
 -- an event
 pub makes_works : (job : Parts) (a b : Sitter) (e : Event) (r : Reply)
-    (m : Makes a e r b) → ReportsTruly job a.place.shape a.worker (e ∷ []) m.before
-    → Works job a b
+    (m : Makes a e r b) → ReportsTruly job a.place.shape a.worker (e ∷ []) m.before → Works job a b
 makes_works job a b e r m t = record {
   place = ap (λ (x : Sitter). x.place) m.seat;
   worker = ap (λ (x : Sitter). x.worker) m.seat;
@@ -150,8 +132,7 @@ pub given : (a b : Sitter) (class block : ℕ)
     → Makes a (Event.Claim a.worker) (Claimed (claim_is.Piece class block)) b
     → (held_by b.worker b.seen ≡ Some (piece_at a.place.shape class block))
     × (class < a.place.shape.classes) × (block < block_count a.place.shape)
-    × (claims a.seen < claims b.seen)
-    × (claims b.seen ≤ piece_count a.place.shape)
+    × (claims a.seen < claims b.seen) × (claims b.seen ≤ piece_count a.place.shape)
 given a b class block m =
     let s = a.place.shape in
     let h = m.before in
@@ -230,21 +211,17 @@ missed a b p i holding r which stays finds = go which
     go (inr e) = finds e
 
 -- a property of a class and a block is a property of their piece
-pub true_of_piece : (job : Parts) (s : Shape) (class block : ℕ)
-    (o : Outcome)
+pub true_of_piece : (job : Parts) (s : Shape) (class block : ℕ) (o : Outcome)
     (x : Option ℕ) → class < s.classes → x ≡ Some (piece_at s class block)
-    → IsTrueOutcome job.list.model job.circuit job.tests.tests class block o
-    → GivesTrue job s x o
-true_of_piece job s class block o x lt e t =
-    subst (λ y. GivesTrue job s y o) (sym e)
+    → IsTrueOutcome job.list.model job.circuit job.tests.tests class block o → GivesTrue job s x o
+true_of_piece job s class block o x lt e t = subst (λ y. GivesTrue job s y o) (sym e)
     (subst (λ k. IsTrueOutcome job.list.model job.circuit job.tests.tests k
     (block_of s (piece_at s class block)) o) (sym (class_of-at s class block lt))
     (subst (λ k. IsTrueOutcome job.list.model job.circuit job.tests.tests class k o)
     (sym (block_of-at s class block lt)) t))
 
 -- a true outcome of the piece that a seat holds is accepted
-pub report_taken : (job : Parts) (a b : Sitter) (class block : ℕ)
-    (o : Outcome)
+pub report_taken : (job : Parts) (a b : Sitter) (class block : ℕ) (o : Outcome)
     (r : _) → IsSitter a → IsShapeOf job a.place.shape → class < a.place.shape.classes
     → held_by a.worker a.seen ≡ Some (piece_at a.place.shape class block)
     → IsTrueOutcome job.list.model job.circuit job.tests.tests class block o
@@ -260,8 +237,7 @@ report_taken job a b class block o r i is lt e t s =
     absurd (cc)
 
 module _ (job : Parts) (a b : Sitter) (p : Place) (class block : ℕ)
-    (at : a.place ≡ p) (i : IsSitter a) (is : IsShapeOf job p.shape)
-    (lt : class < p.shape.classes)
+    (at : a.place ≡ p) (i : IsSitter a) (is : IsShapeOf job p.shape) (lt : class < p.shape.classes)
     (holding : held_by a.worker a.seen ≡ Some (piece_at p.shape class block)) where
   own : IsShapeOf job a.place.shape
   own = subst (λ (q : Place). IsShapeOf job q.shape) (sym at) is
@@ -275,8 +251,7 @@ module _ (job : Parts) (a b : Sitter) (p : Place) (class block : ℕ)
 
   -- a report of the true outcome after it
   module _ (d : Sitter) (o : Outcome) (found : FindsNoHit a b)
-      (true : IsTrueOutcome job.list.model job.circuit job.tests.tests class block
-      o) where
+      (true : IsTrueOutcome job.list.model job.circuit job.tests.tests class block o) where
     sees : Sees a a.exhausted b
     sees = found.sees
 
@@ -291,30 +266,25 @@ module _ (job : Parts) (a b : Sitter) (p : Place) (class block : ℕ)
     own_class_b = subst (λ (q : Place). class < q.shape.classes) (sym here) own_class
 
     no_drop : WasNoDrop b.place.shape b.worker b.seen
-    no_drop =
-        subst (λ (x : Sitter). WasNoDrop x.place.shape x.worker b.seen) (sym sees.seat) (
-          found.at,
-          found.later,
-          found.replied,
-        )
+    no_drop = subst (λ (x : Sitter). WasNoDrop x.place.shape x.worker b.seen) (sym sees.seat) (
+      found.at,
+      found.later,
+      found.replied,
+    )
 
     pub then_reported : (r : Reply) → Makes b (Event.Report b.worker o) r d → Works job a d
-    then_reported r m =
-        works_twice job a b d (sees_works job a b a.exhausted sees)
+    then_reported r m = works_twice job a b d (sees_works job a b a.exhausted sees)
         (reported job b d o r m (true_of_piece job b.place.shape class block o
         (held_by b.worker b.seen) own_class_b still true) no_drop).0
 
     pub then_taken : (r : Refusal) → Stays b (call.Report b.worker o) (Refused r) d → ⊥
-    then_taken r s =
-        report_taken job b d class block o r (sitter_sees a b i sees)
-        (subst (λ (q : Place). IsShapeOf job q.shape) (sym here) own) own_class_b still
-        true s
+    then_taken r s = report_taken job b d class block o r (sitter_sees a b i sees)
+        (subst (λ (q : Place). IsShapeOf job q.shape) (sym here) own) own_class_b still true s
 
 -- the work after a claim that got Exhausted
 pub exhausted : (job : Parts) (a b : Sitter) (r : Reply) → IsSitter a
     → (a.exhausted ≡ false → Sees a true b) → (a.exhausted ≡ true
-    → Stays a (call.Claim a.worker) r b)
-    → Works job a b
+    → Stays a (call.Claim a.worker) r b) → Works job a b
 exhausted job a b r i sees stays = go a.exhausted refl
   where
     go : (t : Bool) → a.exhausted ≡ t → Works job a b
@@ -326,16 +296,14 @@ pub claimed : (job : Parts) (a b : Sitter) (r : Reply)
     → Makes a (Event.Claim a.worker) r b → Works job a b
 claimed job a b r m = makes_works job a b (Event.Claim a.worker) r m tt
 
-works_claims : (job : Parts) (a b : Sitter) → Works job a b
-    → claims a.seen ≤ claims b.seen
+works_claims : (job : Parts) (a b : Sitter) → Works job a b → claims a.seen ≤ claims b.seen
 works_claims job a b x = subst (λ h. claims a.seen ≤ claims h) (sym x.begins)
     (claims_past x.newer a.seen)
 
 -- a piece that was claimed leaves fewer
 pub fewer : (job : Parts) (a b d : Sitter) (p : Place) (class block : ℕ)
     → a.place ≡ p → Makes a (Event.Claim a.worker) (Claimed (claim_is.Piece class block)) b
-    → Works job b d
-    → piece_count p.shape - claims d.seen < piece_count p.shape - claims a.seen
+    → Works job b d → piece_count p.shape - claims d.seen < piece_count p.shape - claims a.seen
 fewer job a b d p class block at m x =
     let g = given a b class block m in
     let few : claims b.seen ≤ piece_count p.shape =
@@ -347,16 +315,14 @@ fewer job a b d p class block at m x =
 -- a worker that its gate stopped for a piece that it has just claimed
 pub stopped_holding : (stops : Stops) (a b : Sitter) (class block : ℕ)
     → Makes a (Event.Claim a.worker) (Claimed (claim_is.Piece class block)) b
-    → stops.may a.worker class block
-    → IsStopped b.place.shape stops b.worker b.seen
+    → stops.may a.worker class block → IsStopped b.place.shape stops b.worker b.seen
 stopped_holding stops a b class block m s =
     let g = given a b class block m in
     subst (λ (x : Sitter). IsStopped x.place.shape stops x.worker b.seen) (sym m.seat) (
       piece_at a.place.shape class block,
       ap (λ (x : Sitter). held_by x.worker b.seen) (sym m.seat) ∙ g.0,
       subst (λ k. stops.may a.worker k (block_of a.place.shape
-          (piece_at a.place.shape class block)))
-          (sym (class_of-at a.place.shape class block g.1))
+          (piece_at a.place.shape class block))) (sym (class_of-at a.place.shape class block g.1))
           (subst (λ k. stops.may a.worker class k) (sym (block_of-at a.place.shape class block g.1))
           s),
     )

@@ -1,25 +1,20 @@
 -- When all classes of a ledger are settled, and that they stay so.
 use Rattle.std.proofs.Common.{map, ◌≡◌, ◌≢◌, ◌<◌, ◌≤◌, ◌+◌, ◌*◌, ◌⊎◌, inl, inr, ℕ, zero, suc, Bool}
 use Rattle.std.proofs.Common.{true, false, cond, eqb, [], ◌∷◌, ◌++◌, Option, Some, None, refl, sym}
-use Rattle.std.proofs.Common.{ap, ◌∙◌, subst, arith, eq-eqb, ne_eqb}
-use Rattle.std.proofs.lemmas.Bool.{cases_lt}
-use Rattle.patterns.specs.declared.Outcome.{Outcome}
+use Rattle.std.proofs.{Common.{ap, ◌∙◌, subst, arith, eq-eqb, ne_eqb}, lemmas.Bool.cases_lt}
+use Rattle.patterns.specs.{declared.Outcome.Outcome, Least.from_up}
 use Rattle.patterns.specs.declared.Outcome.TheVariants as outcome
-use Rattle.fault_ledger.specs.declared.Event.{Event}
-use Rattle.fault_ledger.specs.declared.Shape.{Shape}
-use Rattle.fault_ledger.specs.declared.PieceState.{PieceState}
-use Rattle.fault_ledger.specs.declared.PieceState.TheVariants as state
-use Rattle.patterns.specs.Least.{from_up}
-use Rattle.fault_ledger.specs.declared.Status.{Status}
-use Rattle.fault_ledger.specs.declared.Status.TheVariants as status_is
-use Rattle.fault_ledger.specs.declared.Finish.TheVariants as finish_is
+use Rattle.fault_ledger.specs.declared.{Event.Event, Shape.Shape, PieceState.PieceState}
+use Rattle.fault_ledger.specs.{declared.Status.Status, Answer.IsLegal}
 use Rattle.fault_ledger.specs.History.{History, ContinuesWithout, worker_of, block_count, piece_at}
 use Rattle.fault_ledger.specs.History.{piece_count, claims, held_by, holds, entry, state_of}
-use Rattle.fault_ledger.specs.Answer.{IsLegal}
 use Rattle.fault_ledger.specs.Settled.{status, finish, finish_from, IsSettledAt}
 use Rattle.fault_ledger.proofs.Public.{held-holds, claim_accepted, piece_at-below, ClearBelow}
 use Rattle.fault_ledger.proofs.Public.{skipped_not_first, settled_stays, status-hit, status-none}
 use Rattle.fault_ledger.proofs.Public.{finish-all}
+use Rattle.fault_ledger.specs.declared.PieceState.TheVariants as state
+use Rattle.fault_ledger.specs.declared.Status.TheVariants as status_is
+use Rattle.fault_ledger.specs.declared.Finish.TheVariants as finish_is
 use Rattle.workers.specs.Settling.{AreSettled}
 
 -- an open piece that was claimed is held by one of the workers
@@ -87,8 +82,7 @@ settles_from : (s : Shape) (class : ℕ) (h : History) → IsLegal s h → class
     → (at : Option ℕ) × IsSettledAt s h class at
 settles_from s class h l lt closed zero b e clear = (
   None,
-  status-none (λ k. entry (piece_at s class k) h) (block_count s)
-      (λ k m. clear k (omega arith)),
+  status-none (λ k. entry (piece_at s class k) h) (block_count s) (λ k m. clear k (omega arith)),
 )
 settles_from s class h l lt closed (suc n) b e clear = go (entry (piece_at s class b) h) refl
     (λ q. settles_from s class h l lt closed n (b + 1) (omega arith) (more q))
@@ -130,13 +124,11 @@ settled_goes_on s w n later earlier c settled class lt = let x = settled class l
 
 pub settled_past : (s : Shape) (n : ℕ) (d h : History) → AreSettled s h n → AreSettled s (d ++ h) n
 settled_past s n [] h a = a
-settled_past s n (e ∷ d) h a =
-    settled_goes_on s (suc (worker_of e)) n (e ∷ (d ++ h)) (d ++ h) (
-      e ∷ [],
-      refl,
-      ((λ q. let bad : worker_of e ≡ suc (worker_of e) = q in omega (arith, bad)), tt),
-    )
-    (settled_past s n d h a)
+settled_past s n (e ∷ d) h a = settled_goes_on s (suc (worker_of e)) n (e ∷ (d ++ h)) (d ++ h) (
+  e ∷ [],
+  refl,
+  ((λ q. let bad : worker_of e ≡ suc (worker_of e) = q in omega (arith, bad)), tt),
+) (settled_past s n d h a)
 
 -- one class more
 pub settled_more : (s : Shape) (n : ℕ) (h : History) (at : Option ℕ) → AreSettled s h n

@@ -1,26 +1,20 @@
 -- A run of one thread that sweeps over the blocks: what it knows after one sweep more, and the
 -- outcomes that follow from it.
-use Rattle.std.proofs.Common.{◌≡◌, ◌<◌, ◌≤◌, ◌+◌, ◌*◌, ◌/◌, ◌%◌, ℕ, List}
-use Rattle.std.proofs.Common.{Option, Some, None, refl, sym, ap, ◌∙◌, subst, arith, length}
-use Rattle.std.proofs.Common.{get_or, Bool, true, false, replicate}
-use Rattle.std.specs.Prelude.{slice_get, unwrap_or}
-use Rattle.std.proofs.lemmas.Bool.{false≢true}
-use Rattle.std.proofs.lemmas.List.{get_or-replicate}
+use Rattle.std.proofs.Common.{◌≡◌, ◌<◌, ◌≤◌, ◌+◌, ◌*◌, ◌/◌, ◌%◌, ℕ, List, Option, Some, None, refl}
+use Rattle.std.proofs.Common.{sym, ap, ◌∙◌, subst, arith, length, get_or, Bool, true, false}
+use Rattle.std.{proofs.Common.replicate, specs.Prelude.{slice_get, unwrap_or}}
+use Rattle.std.proofs.lemmas.{Bool.false≢true, List.get_or-replicate}
 use Rattle.std.proofs.lemmas.Option.{get_or_from_slice_get, slice_get-get_or, slice_get_within}
 use Rattle.list_lemmas.proofs.Places.{from_mapped, within_place}
-use Rattle.fault_model.specs.Collapse.{representatives}
-use Rattle.fault_model.specs.Detection.{DetectsAt}
+use Rattle.fault_model.specs.{Collapse.representatives, Detection.DetectsAt}
 use Rattle.patterns.specs.declared.Outcome.TheVariants.{Clear, Hit}
 use Rattle.flat_circuit.specs.declared.block_span.BlockSpan.{BlockSpan}
 use Rattle.flat_circuit.specs.declared.origin.ListedClass.{ListedClass}
-use Rattle.block_sim.specs.First.{IsTrueOutcome}
-use Rattle.block_sim.specs.Parts.{BelongTogether, Parts}
+use Rattle.block_sim.specs.{First.IsTrueOutcome, Parts.{BelongTogether, Parts}}
 use Rattle.block_sim.proofs.Public.{which_detect}
-use Rattle.region_sim.specs.ClassOrder.{classes_of}
-use Rattle.region_sim.specs.Goals.{AreHits, HaveTaken, IsFirstHit}
+use Rattle.region_sim.specs.{ClassOrder.classes_of, Goals.{AreHits, HaveTaken, IsFirstHit}}
 use Rattle.workers.specs.Swept.{AreSweptFirsts, IsPlaced, IsSweptFirst, IsSweptOf}
-use Rattle.workers.specs.declared.swept.Swept.{Swept}
-use Rattle.workers.proofs.TrueOutcomes.{class_count}
+use Rattle.workers.{specs.declared.swept.Swept.Swept, proofs.TrueOutcomes.class_count}
 
 -- ---- before the first block
 pub none_below : (job : Parts) (class : ℕ) → BelongTogether job
@@ -36,8 +30,7 @@ none_below job class b lt =
 -- an element of a list of one value
 pub replicated : (n k : ℕ) (none first : Option ℕ) → slice_get (replicate n none) k ≡ Some first
     → k < n → first ≡ none
-replicated n k none first e low =
-    sym (get_or_from_slice_get (replicate n none) k first none e)
+replicated n k none first e low = sym (get_or_from_slice_get (replicate n none) k first none e)
     ∙ get_or-replicate n k none none low
 
 -- the row of a class, by its place
@@ -52,11 +45,7 @@ module _ (job : Parts) (class block bound : ℕ) where
   -- no test of them all detects the class
   pub clear_of_none : 64 * block + 64 ≤ bound → IsSweptFirst job bound class None
       → IsTrueOutcome job.list.model job.circuit job.tests.tests class block Clear
-  clear_of_none le h = (
-    h.0,
-    h.1,
-    λ k lt. h.2 (64 * block + k) (omega (arith, le, lt)),
-  )
+  clear_of_none le h = (h.0, h.1, λ k lt. h.2 (64 * block + k) (omega (arith, le, lt)))
 
   module _ (test : ℕ) (h : IsSweptFirst job bound class (Some test)) where
     -- the first one comes later
@@ -89,8 +78,7 @@ hit_is job class bound (Some t) hits h first =
       omega arith,
       (first.2).0,
       (h.2 t).1 (subst (λ r. DetectsAt job.circuit job.tests.tests r t) same (first.2).1),
-      λ earlier up lt. off earlier (hits earlier) refl
-          (λ d. (first.2).2 earlier lt
+      λ earlier up lt. off earlier (hits earlier) refl (λ d. (first.2).2 earlier lt
           (subst (λ r. DetectsAt job.circuit job.tests.tests r earlier) (sym same) d)),
     )
   where
@@ -148,8 +136,7 @@ module _ (job : Parts) (s : Swept) (class place : ℕ) (are : IsSweptOf job s)
   stands = are.placed class low
 
   same_place : get_or s.places.items class 0 ≡ place
-  same_place =
-      get_or_from_slice_get s.places.items class place 0
+  same_place = get_or_from_slice_get s.places.items class place 0
       (slice_get-get_or s.places.items class place (omega (arith, low, are.numbers))
       ∙ ap Some (sym is))
 
@@ -161,7 +148,6 @@ module _ (job : Parts) (s : Swept) (class place : ℕ) (are : IsSweptOf job s)
 
   pub known_at : (first : Option ℕ) → first ≡ get_or s.firsts.items place first
       → IsSweptFirst job (64 * s.blocks) class first
-  known_at first e =
-      subst (λ k. IsSweptFirst job (64 * s.blocks) k first) stands.2
+  known_at first e = subst (λ k. IsSweptFirst job (64 * s.blocks) k first) stands.2
       (are.found place stands.0 first row_is
       (slice_get-get_or s.firsts.items place first place_low ∙ ap Some (sym e)))

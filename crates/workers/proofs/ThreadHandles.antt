@@ -6,8 +6,7 @@ use Rattle.block_sim.specs.Parts.{HasRoom, Parts}
 use Rattle.fault_ledger.specs.History.{class_of, block_of}
 use Rattle.fault_ledger.specs.Seats.{Place, Sitter, newcomer, newcomers}
 use Rattle.patterns.proofs.Public.{length-map-below, get_or-map-below}
-use Rattle.workers.specs.declared.piece_threads.Worker.{Worker}
-use Rattle.workers.specs.Stops.{Stops}
+use Rattle.workers.specs.{declared.piece_threads.Worker.Worker, Stops.Stops}
 use Rattle.workers.specs.Work.{HasRested, IsStopped, Returns}
 
 get_map : {A B : Type 0} (f : A → B) (xs : List A) (k : ℕ) (d : A)
@@ -47,12 +46,9 @@ pub returns_along : (j j' : Parts) (p p' : Place) (w w' : ℕ) (P P' : Type 0)
     (S S' : Stops) (a a' : Sitter) → j ≡ j' → p ≡ p' → w ≡ w' → (P' → P)
     → ((u k b : ℕ) → S.may u k b → S'.may u k b) → a ≡ a' → Returns j p w P S a
     → Returns j' p' w' P' S' a'
-returns_along j j' p p' w w' P P' S S' a a' e f h q t s r =
-    subst (λ x. Returns x p' w' P' S' a') e
-    (subst (λ x. Returns j x w' P' S' a') f
-    (subst (λ x. Returns j p x P' S' a') h
-    (subst (λ x. Returns j p w P' S' x) s
-    (record {
+returns_along j j' p p' w w' P P' S S' a a' e f h q t s r = subst (λ x. Returns x p' w' P' S' a') e
+    (subst (λ x. Returns j x w' P' S' a') f (subst (λ x. Returns j p x P' S' a') h
+    (subst (λ x. Returns j p w P' S' x) s (record {
       place_is = r.place_is;
       worker_is = r.worker_is;
       legal = r.legal;
@@ -64,8 +60,4 @@ returns_along j j' p p' w w' P P' S S' a a' e f h q t s r =
     stopped : HasRested a ⊎ IsStopped p.shape S w a.seen
         → HasRested a ⊎ IsStopped p.shape S' w a.seen
     stopped (inl x) = inl x
-    stopped (inr x) = inr (
-      x.0,
-      x.1,
-      t w (class_of p.shape x.0) (block_of p.shape x.0) x.2,
-    )
+    stopped (inr x) = inr (x.0, x.1, t w (class_of p.shape x.0) (block_of p.shape x.0) x.2)

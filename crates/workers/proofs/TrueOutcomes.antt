@@ -1,26 +1,18 @@
 -- From true outcomes to first tests.
 use Rattle.std.proofs.Common.{◌≡◌, ◌<◌, ℕ, zero, suc, true, List, [], ◌∷◌, ◌++◌, map, length}
 use Rattle.std.proofs.Common.{Option, Some, None, refl, sym, ap, ◌∙◌, subst, arith, take, lt-ltb}
-use Rattle.std.specs.Prelude.{slice_get, unwrap_or}
-use Rattle.std.proofs.lemmas.List.{length-map}
+use Rattle.std.{specs.Prelude.{slice_get, unwrap_or}, proofs.lemmas.List.length-map}
 use Rattle.std.proofs.lemmas.Option.{slice_get_within}
 use Rattle.list_lemmas.proofs.Places.{within_place, from_mapped}
-use Rattle.fault_model.specs.Fault.{Fault, faults}
-use Rattle.fault_model.specs.Collapse.{representatives, IsClassOf}
-use Rattle.patterns.specs.declared.Outcome.{Outcome}
+use Rattle.fault_model.specs.{Fault.{Fault, faults}, Collapse.{representatives, IsClassOf}}
+use Rattle.patterns.specs.{declared.Outcome.Outcome, Tests.{blocks, size_of}, Least.{Table, least}}
 use Rattle.patterns.specs.declared.Outcome.TheVariants as outcome
-use Rattle.patterns.specs.Tests.{blocks, size_of}
-use Rattle.patterns.specs.Least.{Table, least}
-use Rattle.block_sim.specs.First.{IsFirst, IsTrueOutcome}
-use Rattle.block_sim.specs.Parts.{Parts, BelongTogether}
+use Rattle.block_sim.specs.{First.{IsFirst, IsTrueOutcome}, Parts.{Parts, BelongTogether}}
 use Rattle.block_sim.proofs.Public.{least_is_first}
-use Rattle.fault_ledger.specs.declared.Shape.{Shape}
-use Rattle.fault_ledger.specs.History.{History, block_count}
-use Rattle.fault_ledger.specs.Answer.{IsTrueTo, fits_size}
-use Rattle.fault_ledger.specs.Settled.{status, IsSettledAt}
+use Rattle.fault_ledger.specs.{declared.Shape.Shape, History.{History, block_count}}
+use Rattle.fault_ledger.specs.{Answer.{IsTrueTo, fits_size}, Settled.{status, IsSettledAt}}
 use Rattle.fault_ledger.proofs.Public.{settles_at_least}
-use Rattle.workers.specs.Schedule.{IsTableOf}
-use Rattle.workers.specs.Settling.{AreSettled, IsShapeOf}
+use Rattle.workers.specs.{Schedule.IsTableOf, Settling.{AreSettled, IsShapeOf}}
 use Rattle.workers.specs.Verdict.{AreFirsts, settled_at, verdicts}
 
 -- there are as many classes as representatives
@@ -44,14 +36,11 @@ true_fits job s class block (outcome.Hit k) is t =
 
 -- if a history is true to the true table, a settled class has its first test
 pub first_settled : (job : Parts) (s : Shape) (table : Table) (h : History)
-    → BelongTogether job → IsShapeOf job s → IsTableOf job table
-    → IsTrueTo s table h
+    → BelongTogether job → IsShapeOf job s → IsTableOf job table → IsTrueTo s table h
     → (k : ℕ) (at : Option ℕ) (f : Fault) → k < s.classes → IsSettledAt s h k at
-    → IsClassOf job.list.model job.circuit f k
-    → IsFirst job.circuit job.tests.tests f at
+    → IsClassOf job.list.model job.circuit f k → IsFirst job.circuit job.tests.tests f at
 first_settled job s table h b is each to k at f lt own of =
-    let least_is : at ≡ least table (block_count s) k =
-    settles_at_least s table h to k at lt own in
+    let least_is : at ≡ least table (block_count s) k = settles_at_least s table h to k at lt own in
     let number : block_count s ≡ blocks (length job.tests.tests) = ap blocks is.tests in
     subst (IsFirst job.circuit job.tests.tests f)
     (sym (least_is ∙ ap (λ n. least table n k) number))

@@ -1,5 +1,4 @@
-use Rattle.std.proofs.Common.{◌≡◌}
-use Rattle.std.specs.Prelude.{Ok, Err}
+use Rattle.std.{proofs.Common.◌≡◌, specs.Prelude.{Ok, Err}}
 use Rattle.bench_net.proofs.OneAnswer.{some_answer, one_answer}
 use Rattle.bench_net.proofs.one_answer.Goals as goal
 

@@ -11,7 +11,6 @@ loop-rest-preserved g c =
       inv.1 ∙ rest_split inv.0 rest n c.in_ok-taken.ensures.within,
       (
         appends_more _ _ _ _ _ inv.2.0 c.in_ok-taken.ensures.taken,
-        c.in_ok-taken.ensures.counted
-            ∙ (counts_none n _ _ c.if-taken-eq0.false ∙ inv.2.1),
+        c.in_ok-taken.ensures.counted ∙ (counts_none n _ _ c.if-taken-eq0.false ∙ inv.2.1),
       ),
     )

@@ -1,5 +1,4 @@
-use Rattle.std.proofs.Common.{take}
-use Rattle.std.specs.List.{flat_map}
+use Rattle.std.{proofs.Common.take, specs.List.flat_map}
 use Rattle.byte_output.specs.Output.{TakesAll}
 use Rattle.byte_output.proofs.put_pieces.Given as goal
 

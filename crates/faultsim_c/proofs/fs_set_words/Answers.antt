@@ -1,7 +1,6 @@
 use Rattle.std.proofs.Common.{rules, sym, ◌∙◌, length}
 use Rattle.bench_net.specs.Scan.{sources}
-use Rattle.faultsim_c.specs.Statuses.{IsWordsReply}
-use Rattle.faultsim_c.proofs.Replies.{words_refused, words_shared}
+use Rattle.faultsim_c.{specs.Statuses.IsWordsReply, proofs.Replies.{words_refused, words_shared}}
 use Rattle.faultsim_c.proofs.fs_set_words.Goals as goal
 
 pub returns-in-Err-clause-refused : goal.returns-in-Err-clause-refused

@@ -1,10 +1,8 @@
 use Rattle.std.proofs.Common.{◌≢◌, Err, false, sym, ap, subst, ◌∙◌, rules}
-use Rattle.report.specs.EndToEnd.{IsReportOf}
-use Rattle.report.specs.declared.contents.Lines.TheVariants.{Omitted}
+use Rattle.report.specs.{EndToEnd.IsReportOf, declared.contents.Lines.TheVariants.Omitted}
 use Rattle.job_loading.specs.declared.fault.ReportFault.{ReportFault}
 use Rattle.job_loading.specs.declared.fault.SimFault.TheVariants as fault
-use Rattle.generator.specs.Generated.{HasJob, IsFaultOfRun}
-use Rattle.generator.proofs.Texts.{report_refused}
+use Rattle.generator.{specs.Generated.{HasJob, IsFaultOfRun}, proofs.Texts.report_refused}
 use Rattle.generator.proofs.generate.Goals as goal
 
 pub returns-in_err-coverage-clause-refused : goal.returns-in_err-coverage-clause-refused
@@ -24,7 +22,6 @@ returns-in_err-coverage-clause-refused g c =
     search rules
 
 pub returns-clause-coverage : goal.returns-clause-coverage
-returns-clause-coverage g c =
-    subst (λ text. IsReportOf c.args.settings.model c.args.bench.now text
+returns-clause-coverage g c = subst (λ text. IsReportOf c.args.settings.model c.args.bench.now text
     (record { lines = Omitted; classes = false }) c.in_ok-coverage.coverage.items)
     c.deref.ensures.value c.in_ok-coverage.ensures.report

@@ -1,18 +1,12 @@
-use Rattle.std.proofs.Common.{◌≡◌, ◌≤◌, ◌⊎◌, ◌++◌, Some, length, ap, sym, subst, ◌∙◌, arith}
-use Rattle.std.proofs.Common.{rules}
-use Rattle.bench_net.specs.Refusal.{IsAccepted}
-use Rattle.bench_net.specs.Scan.{sources}
-use Rattle.patterns.specs.Tests.{HasTests}
+use Rattle.std.proofs.Common.{◌≡◌, ◌≤◌, ◌⊎◌, ◌++◌, Some, length, ap, sym, subst, ◌∙◌, arith, rules}
+use Rattle.bench_net.specs.{Refusal.IsAccepted, Scan.sources}
+use Rattle.patterns.specs.{Tests.HasTests, Making.test_text}
 use Rattle.block_sim.specs.Parts.{Parts}
-use Rattle.patterns.specs.Making.{test_text}
 use Rattle.test_columns.specs.Columns.{columns}
 use Rattle.compaction.specs.Compaction.{IsCompaction}
 use Rattle.generator.specs.Generated.{AreFewPieces, DetectsEarly, DetectsSome, FindsNone}
-use Rattle.generator.specs.Held.{AreAllowed, AreHeldBits}
-use Rattle.generator.proofs.AmongTests.{allowed_among}
-use Rattle.generator.proofs.HeldInputs.{held_allowed}
-use Rattle.generator.proofs.Pieces.{fewer_pieces}
-use Rattle.generator.proofs.Searches.{compacted_some}
+use Rattle.generator.{specs.Held.{AreAllowed, AreHeldBits}, proofs.AmongTests.allowed_among}
+use Rattle.generator.proofs.{HeldInputs.held_allowed, Pieces.fewer_pieces, Searches.compacted_some}
 use Rattle.generator.proofs.Texts.{file_is, held_refused, text_has_job}
 use Rattle.generator.proofs.test_rows.Goals as goal
 
@@ -56,8 +50,7 @@ returns-clause-compacted g c =
     let best = c.in_ok-best.best.tests in
     let kept = c.in_ok-needed.needed.tests in
     let is = c.in_ok-job.ensures.job in
-    let circuit : was.circuit ≡ job.circuit =
-    c.best_tests.ensures.circuit
+    let circuit : was.circuit ≡ job.circuit = c.best_tests.ensures.circuit
     ∙ (ap (λ (p : Parts). p.circuit) c.whole-run.ensures.whole ∙ c.search.ensures.circuit) in
     let model : was.list.model ≡ c.args.settings.model =
     ap (λ l. l.model) (c.best_tests.ensures.list
@@ -88,16 +81,13 @@ returns-clause-some g c = λ big.
     subst (λ x. DetectsEarly m x found → DetectsSome m x best)
     (ap (λ (p : Parts). p.circuit) c.whole-run.ensures.whole ∙ c.search.ensures.circuit)
     (c.in_ok-best.ensures.some big) in
-    let circuit : was.circuit ≡ job.circuit =
-    c.best_tests.ensures.circuit
+    let circuit : was.circuit ≡ job.circuit = c.best_tests.ensures.circuit
     ∙ (ap (λ (p : Parts). p.circuit) c.whole-run.ensures.whole ∙ c.search.ensures.circuit) in
-    let model : was.list.model ≡ m =
-    ap (λ l. l.model) (c.best_tests.ensures.list
+    let model : was.list.model ≡ m = ap (λ l. l.model) (c.best_tests.ensures.list
     ∙ (ap (λ (p : Parts). p.list) c.whole-run.ensures.whole ∙ c.search.ensures.list)) ∙ is.3 in
     let needed : IsCompaction m job.circuit best kept =
     subst (λ x. IsCompaction x job.circuit best kept) model
-    (subst (λ x. IsCompaction was.list.model x best kept) circuit
-    c.in_ok-needed.ensures.needed) in
+    (subst (λ x. IsCompaction was.list.model x best kept) circuit c.in_ok-needed.ensures.needed) in
     let seed = c.args.settings.seed in
     let bits = c.in_ok-bits.bits.items in
     let early : DetectsEarly m job.circuit found ⊎ FindsNone m job.circuit bits seed =
@@ -144,8 +134,7 @@ returns-clause-columns g c =
           c.in_ok-test_file.field-0.items c.circuit.ensures.part c.in_ok-line.ensures.line
           c.in_ok-test_file.ensures.text,
       subst (λ n. HasTests c.in_ok-test_file.field-0.items n needed) width read,
-      ap columns c.in_ok-test_file.ensures.text
-          ∙ subst
+      ap columns c.in_ok-test_file.ensures.text ∙ subst
           (λ x. columns (line ++ rows) ≡ Some (record { line = 1; names = sources x }))
           c.circuit.ensures.part (c.in_ok-line.ensures.named bench rows accepted),
     )

@@ -1,8 +1,6 @@
 use Rattle.std.proofs.Common.{◌≡◌, ◌<◌, ◌≤◌, ◌+◌, ◌-◌, ◌++◌, ◌∙◌, [], ap, arith, drop, false}
-use Rattle.std.proofs.Common.{get_or, inl, inr, length, sym, take}
-use Rattle.std.proofs.lemmas.Bool.{cases_lt}
-use Rattle.std.proofs.lemmas.List.{same_lists}
-use Rattle.std.proofs.lemmas.Option.{get_or_from_slice_get, slice_get-get_or}
+use Rattle.std.proofs.{Common.{get_or, inl, inr, length, sym, take}, lemmas.Bool.cases_lt}
+use Rattle.std.proofs.lemmas.{List.same_lists, Option.{get_or_from_slice_get, slice_get-get_or}}
 use Rattle.pairs.proofs.PairRows.{joined_left, joined_length, joined_right}
 use Rattle.pairs.proofs.copy_bits.Goals as goal
 
@@ -36,8 +34,7 @@ returns c =
             c.requires.source,
           ) in
           let in_own : from + j < length own = omega (arith, inside, long) in
-          ap (λ i. get_or row i d) place
-          ∙ (c.loop-source.invariant.copied j d
+          ap (λ i. get_or row i d) place ∙ (c.loop-source.invariant.copied j d
           (omega (arith, inside, wide, c.loop-source-test.false))
           ∙ (sym (get_or_from_slice_get own (from + j) (get_or own (from + j) false) d
           (slice_get-get_or own (from + j) false in_own))

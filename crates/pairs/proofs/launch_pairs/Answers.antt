@@ -1,5 +1,4 @@
-use Rattle.std.proofs.Common.{◌≡◌, ◌-◌, ◌∙◌, ap, arith, length}
-use Rattle.std.proofs.lemmas.List.{length-map}
+use Rattle.std.proofs.{Common.{◌≡◌, ◌-◌, ◌∙◌, ap, arith, length}, lemmas.List.length-map}
 use Rattle.bench_net.specs.Scan.{inputs, outputs, signal}
 use Rattle.pairs.proofs.PairRows.{are_launch_pairs, observer_count, source_count}
 use Rattle.pairs.proofs.launch_pairs.Goals as goal

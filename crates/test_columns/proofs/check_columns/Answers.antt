@@ -1,8 +1,6 @@
-use Rattle.std.proofs.Common.{◌≡◌, ◌∙◌, ap, map}
-use Rattle.std.specs.Prelude.{Some}
-use Rattle.test_columns.specs.Columns.{names_in}
-use Rattle.test_columns.proofs.Named.{columns_are, if_err, names_fault, on_ok}
-use Rattle.test_columns.proofs.Named.{passed_names, passed_refused}
+use Rattle.std.{proofs.Common.{◌≡◌, ◌∙◌, ap, map}, specs.Prelude.Some}
+use Rattle.test_columns.{specs.Columns.names_in, proofs.Named.passed_refused}
+use Rattle.test_columns.proofs.Named.{columns_are, if_err, names_fault, on_ok, passed_names}
 use Rattle.test_columns.proofs.check_columns.Goals as goal
 
 pub returns-in-Ok-clause-passed : goal.returns-in-Ok-clause-passed
@@ -34,7 +32,6 @@ returns-in-Ok-clause-refused c =
     (record { line = c.in-Some.line.number; names = names }) f c.in-Ok.ensures.accepted is)
 
 pub returns-clause-passed : goal.returns-clause-passed
-returns-clause-passed c =
-    on_ok c.without_circuit.result c.without_circuit.ensures.passed
+returns-clause-passed c = on_ok c.without_circuit.result c.without_circuit.ensures.passed
     (passed_refused c.args.bench.now c.args.tests.now c.in-Err.fault c.in-Err.ensures.refused
     (λ d f. c.one_answer.ensures.not_both c.args.bench.now d f))

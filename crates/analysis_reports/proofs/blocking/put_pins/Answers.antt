@@ -1,5 +1,4 @@
-use Rattle.std.proofs.Common.{ap, false}
-use Rattle.std.proofs.lemmas.Result.{err_from_is_err_and}
+use Rattle.std.proofs.{Common.{ap, false}, lemmas.Result.err_from_is_err_and}
 use Rattle.byte_output.proofs.Public.{flat_map_cut, flat_map_taken, stopped, takes_more}
 use Rattle.blocking_pins.specs.declared.pins.BlockingPin.{BlockingPin}
 use Rattle.analysis_reports.specs.BlockingReports.{pin_cells, pin_line}

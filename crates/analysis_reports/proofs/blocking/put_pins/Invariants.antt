@@ -1,5 +1,4 @@
-use Rattle.std.proofs.Common.{take}
-use Rattle.std.specs.List.{flat_map}
+use Rattle.std.{proofs.Common.take, specs.List.flat_map}
 use Rattle.byte_output.specs.Output.{TakesAll}
 use Rattle.analysis_reports.specs.BlockingReports.{pin_cells, pin_line}
 use Rattle.analysis_reports.proofs.blocking.put_pins.Given as goal

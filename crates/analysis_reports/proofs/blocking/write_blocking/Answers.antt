@@ -2,8 +2,7 @@ use Rattle.std.proofs.Common.{◌≡◌, ◌∙◌, ap, arith, length, refl, sym
 use Rattle.std.proofs.lemmas.Result.{err_from_is_err_and}
 use Rattle.bench_net.proofs.Public.{some_signal}
 use Rattle.fault_model.specs.Fault.{FaultList}
-use Rattle.analysis_reports.specs.BlockingReports.{blocking_text}
-use Rattle.analysis_reports.proofs.BlockingTexts.{pins_named}
+use Rattle.analysis_reports.{specs.BlockingReports.blocking_text, proofs.BlockingTexts.pins_named}
 use Rattle.analysis_reports.proofs.blocking.write_blocking.Goals as goal
 
 pub prove-unreachable-requires : goal.prove-unreachable-requires
@@ -13,8 +12,7 @@ prove-unreachable-requires g c =
     omega (arith, some)
 
 pub put_blocking-requires-clause-each : goal.put_blocking-requires-clause-each
-put_blocking-requires-clause-each g c =
-    rw (c.circuit-circuit.ensures.part, c.deref.ensures.value)
+put_blocking-requires-clause-each g c = rw (c.circuit-circuit.ensures.part, c.deref.ensures.value)
     (pins_named c.args.job.now c.in_ok-pins.pins.items c.circuit-circuit.ensures.together
     c.in_ok-pins.ensures.each)
 

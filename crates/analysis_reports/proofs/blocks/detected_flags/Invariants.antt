@@ -1,5 +1,4 @@
-use Rattle.std.proofs.Common.{◌≡◌, map, take}
-use Rattle.std.specs.Prelude.{is_some}
+use Rattle.std.{proofs.Common.{◌≡◌, map, take}, specs.Prelude.is_some}
 use Rattle.analysis_reports.proofs.blocks.detected_flags.Given as goal
 
 -- the flags of the faults so far

@@ -1,9 +1,7 @@
-use Rattle.std.proofs.Common.{◌∙◌, arith, map, refl, sym}
-use Rattle.std.proofs.lemmas.Result.{err_from_is_err_and}
+use Rattle.std.proofs.{Common.{◌∙◌, arith, map, refl, sym}, lemmas.Result.err_from_is_err_and}
 use Rattle.bench_net.proofs.Public.{some_signal}
 use Rattle.block_coverage.specs.Blocks.{cells_in}
-use Rattle.analysis_reports.specs.Blocks.{blocks_text}
-use Rattle.analysis_reports.proofs.BlockTexts.{text_of_rows}
+use Rattle.analysis_reports.{specs.Blocks.blocks_text, proofs.BlockTexts.text_of_rows}
 use Rattle.analysis_reports.proofs.blocks.write_blocks.Goals as goal
 
 pub prove-unreachable-requires : goal.prove-unreachable-requires

@@ -1,5 +1,4 @@
-use Rattle.std.proofs.Common.{ap, map}
-use Rattle.std.specs.Prelude.{is_some}
+use Rattle.std.{proofs.Common.{ap, map}, specs.Prelude.is_some}
 use Rattle.fault_model.specs.Fault.{FaultList}
 use Rattle.block_coverage.specs.Blocks.{byte_of}
 use Rattle.report.proofs.Public.{written_as}
@@ -8,14 +7,13 @@ use Rattle.analysis_reports.proofs.BlockTexts.{flags_counted}
 use Rattle.analysis_reports.proofs.blocks.write_blocks_of_run.Goals as goal
 
 pub write_blocks-requires-clause-list : goal.write_blocks-requires-clause-list
-write_blocks-requires-clause-list g c =
-    rw (
-      c.circuit.ensures.part,
-      c.faults.ensures.part,
-      c.job-job.ensures.list,
-      c.job-job.ensures.circuit,
-      c.in_ok-verdicts.ensures.kept,
-    ) (ap (λ (l : FaultList). l.list) c.requires.job.list)
+write_blocks-requires-clause-list g c = rw (
+  c.circuit.ensures.part,
+  c.faults.ensures.part,
+  c.job-job.ensures.list,
+  c.job-job.ensures.circuit,
+  c.in_ok-verdicts.ensures.kept,
+) (ap (λ (l : FaultList). l.list) c.requires.job.list)
 
 pub write_blocks-requires-clause-count : goal.write_blocks-requires-clause-count
 write_blocks-requires-clause-count g c =

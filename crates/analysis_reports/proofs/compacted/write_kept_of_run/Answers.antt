@@ -1,5 +1,4 @@
-use Rattle.std.proofs.Common.{◌≡◌, ◌∙◌, List, ap, length}
-use Rattle.std.proofs.lemmas.Result.{err_from_is_err_and}
+use Rattle.std.proofs.{Common.{◌≡◌, ◌∙◌, List, ap, length}, lemmas.Result.err_from_is_err_and}
 use Rattle.bench_net.specs.Statement.{Statement}
 use Rattle.block_sim.specs.Parts.{Parts}
 use Rattle.region_runs.specs.Refused.{IsOpenFault}
@@ -18,8 +17,7 @@ returns-in_err-put_kept-clause-written g c =
     let all = c.count-all.ensures ∙ ap (λ t. length t.tests) c.tests.ensures.tests in
     let circuit : c.circuit.result.now ≡ job.circuit = c.circuit.ensures.part
     ∙ (c.job.ensures.circuit ∙ ap (λ (p : Parts). p.circuit) c.in_ok-kept.ensures.job) in
-    rw (p.1, p.2) (given_text
-    (λ bytes. bytes ≡ kept_text form c.circuit.result.now kept numbers)
+    rw (p.1, p.2) (given_text (λ bytes. bytes ≡ kept_text form c.circuit.result.now kept numbers)
     (IsKeptTextOfJob job c.args.layout) (the_count c.count.result c.count-all.result) _ _ _
     (λ text is. (
       kept,
@@ -34,8 +32,7 @@ returns-in_err-put_kept-clause-refused g c =
     let p = err_from_is_err_and c.from_residual-in_err-put_kept.result
     c.from_residual-in_err-put_kept.ensures.1 in
     rw (p.1, p.2) (kept_fault c.args.workers (IsOpenFault c.args.workers) _
-    c.in_ok-kept.ensures.workers.0 c.in_ok-kept.ensures.workers.1
-    c.in_err-put_kept.ensures.refused)
+    c.in_ok-kept.ensures.workers.0 c.in_ok-kept.ensures.workers.1 c.in_err-put_kept.ensures.refused)
 
 pub returns-clause-written : goal.returns-clause-written
 returns-clause-written g c =

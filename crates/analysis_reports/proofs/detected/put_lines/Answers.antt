@@ -1,7 +1,5 @@
-use Rattle.std.proofs.Common.{◌<◌, ◌≤◌, length, arith}
-use Rattle.std.proofs.lemmas.Result.{err_from_is_err_and}
-use Rattle.analysis_reports.specs.Detected.{count_line}
-use Rattle.analysis_reports.proofs.CountedTexts.{is_count_line}
+use Rattle.std.proofs.{Common.{◌<◌, ◌≤◌, length, arith}, lemmas.Result.err_from_is_err_and}
+use Rattle.analysis_reports.{specs.Detected.count_line, proofs.CountedTexts.is_count_line}
 use Rattle.threaded_lines.proofs.Public.{line_stopped, line_taken, lines_taken}
 use Rattle.analysis_reports.proofs.detected.put_lines.Goals as goal
 
@@ -26,5 +24,4 @@ pub returns : goal.returns
 returns g c =
     let le : length c.args.list.now.list ≤ c.loop-fault.fault = omega arith in
     rw (← c.requires.list) (lines_taken (count_line c.args.circuit.now) c.args.list.now.list
-    c.args.counts.now c.loop-fault.fault _ _ c.requires.count le
-    c.loop-fault.invariant)
+    c.args.counts.now c.loop-fault.fault _ _ c.requires.count le c.loop-fault.invariant)

@@ -21,8 +21,7 @@ returns-in_err-put_lines g c =
       c.circuit-circuit.ensures.part,
       c.faults-list.ensures.part,
     ) at c.in_err-put_lines.ensures in
-    rw (p.1, listed)
-    (stopped_before _ (coverage_line (reached_count c.args.most c.args.counts.now)
+    rw (p.1, listed) (stopped_before _ (coverage_line (reached_count c.args.most c.args.counts.now)
     (length c.args.counts.now)) _ _ wrote)
 
 pub returns-in_err-put_coverage-2 : goal.returns-in_err-put_coverage-2

@@ -1,5 +1,4 @@
-use Rattle.std.proofs.Common.{refl}
-use Rattle.std.proofs.lemmas.Result.{err_from_is_err_and}
+use Rattle.std.proofs.{Common.refl, lemmas.Result.err_from_is_err_and}
 use Rattle.analysis_reports.specs.Detected.{detection_report}
 use Rattle.analysis_reports.proofs.detected.write_detections_of_run.Goals as goal
 

@@ -1,7 +1,5 @@
-use Rattle.std.proofs.Common.{◌<◌, arith, length, sym}
-use Rattle.std.proofs.lemmas.Result.{err_from_is_err_and}
-use Rattle.patterns.specs.Least.{below}
-use Rattle.patterns.proofs.Public.{length-below}
+use Rattle.std.proofs.{Common.{◌<◌, arith, length, sym}, lemmas.Result.err_from_is_err_and}
+use Rattle.patterns.{specs.Least.below, proofs.Public.length-below}
 use Rattle.analysis_reports.specs.Histogram.{histogram_line}
 use Rattle.analysis_reports.proofs.HistogramTexts.{count_stopped, count_taken}
 use Rattle.threaded_lines.proofs.Public.{lines_taken}

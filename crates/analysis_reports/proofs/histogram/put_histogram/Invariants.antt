@@ -1,6 +1,4 @@
-use Rattle.std.proofs.Common.{length, take}
-use Rattle.std.specs.Prelude.{zip}
-use Rattle.std.specs.List.{flat_map}
+use Rattle.std.{proofs.Common.{length, take}, specs.Prelude.zip, specs.List.flat_map}
 use Rattle.patterns.specs.Least.{below}
 use Rattle.byte_output.specs.Output.{TakesAll}
 use Rattle.analysis_reports.specs.Histogram.{histogram_line}

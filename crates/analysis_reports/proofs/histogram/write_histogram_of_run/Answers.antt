@@ -1,9 +1,7 @@
-use Rattle.std.proofs.Common.{◌++◌, ap, arith, length, refl}
-use Rattle.std.proofs.lemmas.Result.{err_from_is_err_and}
+use Rattle.std.proofs.{Common.{◌++◌, ap, arith, length, refl}, lemmas.Result.err_from_is_err_and}
 use Rattle.fault_model.specs.Fault.{FaultList}
 use Rattle.region_runs.specs.RunJobs.{RunView}
-use Rattle.analysis_reports.specs.Detected.{detection_report}
-use Rattle.analysis_reports.specs.Histogram.{histogram, histogram_text}
+use Rattle.analysis_reports.specs.{Detected.detection_report, Histogram.{histogram, histogram_text}}
 use Rattle.analysis_reports.proofs.histogram.write_histogram_of_run.Goals as goal
 
 pub histogram_of-requires : goal.histogram_of-requires

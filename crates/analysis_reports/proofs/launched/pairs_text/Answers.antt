@@ -1,5 +1,4 @@
-use Rattle.std.proofs.Common.{◌≤◌, arith, length}
-use Rattle.std.proofs.lemmas.Result.{err_from_is_err_and}
+use Rattle.std.proofs.{Common.{◌≤◌, arith, length}, lemmas.Result.err_from_is_err_and}
 use Rattle.analysis_reports.proofs.LaunchedPairs.{pairs_input_fault, pairs_made}
 use Rattle.analysis_reports.proofs.launched.pairs_text.Goals as goal
 

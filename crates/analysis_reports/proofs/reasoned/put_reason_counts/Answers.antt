@@ -1,5 +1,4 @@
-use Rattle.std.proofs.Common.{◌∙◌, ap}
-use Rattle.std.specs.Prelude.{decimal}
+use Rattle.std.{proofs.Common.{◌∙◌, ap}, specs.Prelude.decimal}
 use Rattle.byte_output.proofs.Public.{writes_same}
 use Rattle.analysis_reports.proofs.ReasonTexts.{counts_line}
 use Rattle.analysis_reports.proofs.reasoned.put_reason_counts.Goals as goal

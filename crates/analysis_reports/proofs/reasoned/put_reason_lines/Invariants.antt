@@ -1,5 +1,4 @@
-use Rattle.std.specs.Prelude.{zip}
-use Rattle.std.specs.List.{flat_map, slice_range}
+use Rattle.std.specs.{Prelude.zip, List.{flat_map, slice_range}}
 use Rattle.byte_output.specs.Output.{TakesAll}
 use Rattle.analysis_reports.specs.Reasons.{reason_line}
 use Rattle.analysis_reports.proofs.reasoned.put_reason_lines.Given as goal

@@ -1,10 +1,8 @@
-use Rattle.std.proofs.Common.{refl}
-use Rattle.std.proofs.lemmas.Result.{err_from_is_err_and}
+use Rattle.std.proofs.{Common.refl, lemmas.Result.err_from_is_err_and}
 use Rattle.analysis_reports.specs.Reasons.{reason_report}
 use Rattle.analysis_reports.proofs.reasoned.write_reasons_of_run.Goals as goal
 
-pub returns-in_err-write_reasons-clause-written :
-    goal.returns-in_err-write_reasons-clause-written
+pub returns-in_err-write_reasons-clause-written : goal.returns-in_err-write_reasons-clause-written
 returns-in_err-write_reasons-clause-written g c =
     let p = err_from_is_err_and c.from_residual-in_err-write_reasons.result
     c.from_residual-in_err-write_reasons.ensures.1 in

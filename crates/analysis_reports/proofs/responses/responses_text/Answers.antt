@@ -1,5 +1,4 @@
-use Rattle.std.proofs.Common.{◌≡◌, ◌∙◌}
-use Rattle.std.proofs.lemmas.Result.{err_from_is_err_and}
+use Rattle.std.proofs.{Common.{◌≡◌, ◌∙◌}, lemmas.Result.err_from_is_err_and}
 use Rattle.patterns.specs.Making.{test_text}
 use Rattle.analysis_reports.proofs.ResponseTexts.{input_fault}
 use Rattle.analysis_reports.proofs.responses.responses_text.Goals as goal

@@ -1,9 +1,7 @@
-use Rattle.std.proofs.lemmas.Result.{err_from_is_err_and}
-use Rattle.std.proofs.Common.{◌∙◌, sym, ◌≡◌, ◌∙◌, List, arith, ap, refl, [], length}
-use Rattle.std.specs.Prelude.{false, ◌==◌, vec_len}
+use Rattle.std.{proofs.lemmas.Result.err_from_is_err_and, specs.Prelude.{false, ◌==◌, vec_len}}
+use Rattle.std.proofs.Common.{◌∙◌, sym, ◌≡◌, List, arith, ap, refl, [], length}
 use Rattle.std.proofs.lemmas.Bool.{false≢true, eq-eqb}
-use Rattle.bench_net.specs.declared.read.Lines.{Lines}
-use Rattle.bench_net.specs.Statement.{Name}
+use Rattle.bench_net.specs.{declared.read.Lines.Lines, Statement.Name}
 use Rattle.bench_net.proofs.CircuitTables.{table_lines, count, circuit, inside, refused}
 use Rattle.bench_net.proofs.circuit.circuit_of.Goals as goal
 

@@ -1,8 +1,6 @@
-use Rattle.std.proofs.Common.{◌≡◌, arith, rules}
-use Rattle.std.proofs.lemmas.List.{get_or_default}
+use Rattle.std.proofs.{Common.{◌≡◌, arith, rules}, lemmas.List.get_or_default}
 use Rattle.std.proofs.lemmas.Result.{err_from_is_err_and}
-use Rattle.bench_net.specs.Level.{greatest}
-use Rattle.bench_net.proofs.LevelSearch.{greatest-at}
+use Rattle.bench_net.{specs.Level.greatest, proofs.LevelSearch.greatest-at}
 use Rattle.bench_net.proofs.PinRows.{pin_graph, levels_by_rows, fault_by_rows}
 use Rattle.bench_net.proofs.levels.levels_of.Goals as goal
 
@@ -18,8 +16,7 @@ signal_levels-requires c =
     pin_graph c.args.lines.now _ _ c.in_ok-rows.ensures c.requires.at c.requires.graph
 
 pub returns-clause-levels : goal.returns-clause-levels
-returns-clause-levels c =
-    levels_by_rows c.args.lines.now _ _ c.in_ok-rows.ensures c.requires.at
+returns-clause-levels c = levels_by_rows c.args.lines.now _ _ c.in_ok-rows.ensures c.requires.at
     c.in_ok-levels.levels.items c.in_ok-levels.ensures.levels
 
 pub returns-in_err-levels-clause-fault : goal.returns-in_err-levels-clause-fault

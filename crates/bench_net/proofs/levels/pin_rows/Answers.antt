@@ -1,5 +1,4 @@
-use Rattle.std.proofs.Common.{arith}
-use Rattle.std.proofs.lemmas.Grind.{common_steps}
+use Rattle.std.proofs.{Common.arith, lemmas.Grind.common_steps}
 use Rattle.bench_net.proofs.PinRows.{no_pins, pin_rows_are}
 use Rattle.bench_net.proofs.levels.pin_rows.Goals as goal
 

@@ -1,6 +1,5 @@
 use Rattle.std.proofs.Common.{◌≡◌, ◌++◌, drop, length}
-use Rattle.bench_net.specs.Tables.{all_pins}
-use Rattle.bench_net.proofs.PinRows.{pin_starts}
+use Rattle.bench_net.{specs.Tables.all_pins, proofs.PinRows.pin_starts}
 use Rattle.bench_net.proofs.levels.pin_rows.Given as goal
 
 abbrev pub invariant-loop-line : goal.invariant-loop-line

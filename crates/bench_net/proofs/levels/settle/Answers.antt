@@ -1,5 +1,4 @@
-use Rattle.std.proofs.Common.{◌∙◌, ◌+◌, ap, refl, arith}
-use Rattle.std.specs.Prelude.{Some}
+use Rattle.std.{proofs.Common.{◌∙◌, ◌+◌, ap, refl, arith}, specs.Prelude.Some}
 use Rattle.std.proofs.lemmas.Option.{slice_get_read}
 use Rattle.bench_net.proofs.LevelSearch.{begun_more, lower_levels, opened}
 use Rattle.bench_net.proofs.levels.settle.Goals.{in-Unknown+in_ok-push, in_default}

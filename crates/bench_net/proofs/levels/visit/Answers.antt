@@ -1,6 +1,5 @@
 use Rattle.std.proofs.Common.{◌≡◌, ◌<◌, ◌∙◌, ap, arith, length, refl, inl}
-use Rattle.std.specs.Prelude.{Some, None, slice_get}
-use Rattle.std.proofs.lemmas.List.{reverse-append}
+use Rattle.std.{specs.Prelude.{Some, None, slice_get}, proofs.lemmas.List.reverse-append}
 use Rattle.std.proofs.lemmas.Option.{slice_get_read, slice_get-get_or, gets}
 use Rattle.list_lemmas.proofs.Places.{at_place}
 use Rattle.bench_net.specs.Marks.{pins_by, IsLowestStuck}
@@ -69,8 +68,7 @@ returns-in-Unknown-clause-search c =
 
 stuck : (c : In-Open) → IsLowestStuck (pins_by c.args.rows.now) (length c.args.at.now) c.args.start
 stuck c = met c.loop-pin.invariant.search c.args.start _ refl c.requires.lower
-    (read (goal.at.In-Open c).In-Some)
-    (mark (goal.at.In-Open c).After-index ∙ ap Some c.in-Open.is)
+    (read (goal.at.In-Open c).In-Some) (mark (goal.at.In-Open c).After-index ∙ ap Some c.in-Open.is)
 
 pub bounds-at-start : goal.bounds-at-start
 bounds-at-start c = omega (arith, (stuck (goal.at.bounds-at-start c).In-Open).0)
@@ -86,7 +84,6 @@ returns-clause-search c =
     let found = c.in_default.ensures.lookup in
     let same = ap (pins_by c.args.rows.now) c.loop-pin.invariant.signal in
     let none : slice_get (pins_by c.args.rows.now c.loop-pin.gate.signal) c.loop-pin.gate.pin
-    ≡ None =
-    grind (arith, gets, found, same, c.row-pins.ensures, c.in_default.not-Some) in
+    ≡ None = grind (arith, gets, found, same, c.row-pins.ensures, c.in_default.not-Some) in
     let more = finished c.loop-pin.invariant.search none in
     (more.0, omega (arith, more.1, c.loop-pin.invariant.fewer))

@@ -1,5 +1,4 @@
-use Rattle.std.proofs.Common.{◌∙◌, arith, refl, sym}
-use Rattle.std.proofs.lemmas.Option.{slice_get_read}
+use Rattle.std.proofs.{Common.{◌∙◌, arith, refl, sym}, lemmas.Option.slice_get_read}
 use Rattle.bench_net.proofs.LineTables.{line_at}
 use Rattle.bench_net.proofs.line.line_of.Goals as goal
 

@@ -1,7 +1,6 @@
-use Rattle.std.proofs.Common.{◌≡◌, ◌+◌, ◌∙◌, [], ◌∷◌, ◌++◌, ap, length, length-append}
-use Rattle.std.proofs.Common.{append_assoc, arith, rules}
-use Rattle.bench_net.specs.reader.Parsed.{names_of}
-use Rattle.bench_net.specs.NameText.{cut_names}
+use Rattle.std.proofs.Common.{◌≡◌, ◌+◌, ◌∙◌, [], ◌∷◌, ◌++◌, ap, length, length-append, append_assoc}
+use Rattle.std.proofs.Common.{arith, rules}
+use Rattle.bench_net.specs.{reader.Parsed.names_of, NameText.cut_names}
 use Rattle.bench_net.proofs.NameTexts.{ends_more, names_more, texts_more}
 use Rattle.bench_net.proofs.name_table.joined.Goals as goal
 

@@ -1,6 +1,5 @@
 use Rattle.std.proofs.Common.{◌≡◌, ◌++◌, length}
-use Rattle.bench_net.specs.reader.Parsed.{names_of}
-use Rattle.bench_net.specs.NameText.{cut_names, AreEnds, AreTexts}
+use Rattle.bench_net.specs.{reader.Parsed.names_of, NameText.{cut_names, AreEnds, AreTexts}}
 use Rattle.bench_net.proofs.name_table.joined.Given as goal
 
 abbrev pub invariant-loop-name : goal.invariant-loop-name

@@ -1,6 +1,5 @@
 use Rattle.std.proofs.Common.{sym, length, arith}
-use Rattle.bench_net.specs.NameText.{cut_names}
-use Rattle.bench_net.proofs.NameTexts.{name_cut, name_within, text_at}
+use Rattle.bench_net.{specs.NameText.cut_names, proofs.NameTexts.{name_cut, name_within, text_at}}
 use Rattle.bench_net.proofs.name_table.name_at.Goals as goal
 
 pub slice_bounds-name-count : goal.slice_bounds-name-count
@@ -22,12 +21,10 @@ slice_bounds-name-end c =
     omega (arith, c.start_of.ensures, within.0, within.1)
 
 pub from_utf8_unchecked-requires : goal.from_utf8_unchecked-requires
-from_utf8_unchecked-requires c =
-    rw c.start_of.ensures
+from_utf8_unchecked-requires c = rw c.start_of.ensures
     (text_at (cut_names c.args.text.now 0 c.args.ends.now) c.args.place _ c.requires.texts
     (name_cut c.args.text.now 0 c.args.ends.now c.args.place c.requires.below))
 
 pub returns : goal.returns
-returns c =
-    rw (c.from_utf8_unchecked.ensures, c.start_of.ensures)
+returns c = rw (c.from_utf8_unchecked.ensures, c.start_of.ensures)
     (sym (name_cut c.args.text.now 0 c.args.ends.now c.args.place c.requires.below))

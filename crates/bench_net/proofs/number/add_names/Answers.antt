@@ -1,11 +1,8 @@
-use Rattle.std.proofs.Common.{◌≡◌, ◌∙◌, ◌∷◌, ◌++◌, [], ap, sym, inl, inr, refl, arith}
-use Rattle.std.proofs.Common.{take, option_map, append-nil, append_assoc}
-use Rattle.std.specs.Option.{option_to_list}
+use Rattle.std.proofs.Common.{◌≡◌, ◌∙◌, ◌∷◌, ◌++◌, [], ap, sym, inl, inr, refl, arith, take}
+use Rattle.std.{proofs.Common.{option_map, append-nil, append_assoc}, specs.Option.option_to_list}
 use Rattle.std.proofs.lemmas.Bool.{not-true, not-false, both_ways}
-use Rattle.list_lemmas.proofs.Members.{among}
-use Rattle.list_lemmas.proofs.Distinct.{distinct_append, distinct_from_pairs}
-use Rattle.bench_net.specs.reader.Parsed.{names_of}
-use Rattle.bench_net.specs.reader.Entries.{names_in, defined_of}
+use Rattle.list_lemmas.proofs.{Members.among, Distinct.{distinct_append, distinct_from_pairs}}
+use Rattle.bench_net.specs.reader.{Parsed.names_of, Entries.{names_in, defined_of}}
 use Rattle.bench_net.proofs.NumberedLines.{redefined, names_more}
 use Rattle.bench_net.proofs.Names.{in_contained, among_in, pairs_distinct}
 use Rattle.bench_net.proofs.number.add_names.Goals as goal
@@ -28,8 +25,7 @@ returns-then-not-branch-clause-refused c =
     let same = c.loop-line.invariant.0
     ∙ ap (λ l. l ++ names_in (take c.loop-line.line-index c.args.stated.now)) none in
     inr (redefined text c.args.stated.now of c.loop-line.line-index line (omega arith)
-    c.line-item.is n (rw one (inl refl))
-    (rw same at (among ns n (in_contained ns n before)))
+    c.line-item.is n (rw one (inl refl)) (rw same at (among ns n (in_contained ns n before)))
     (rw same at c.loop-line.invariant.1))
 
 pub loop-line-preserved : goal.loop-line-preserved
@@ -44,8 +40,7 @@ loop-line-preserved c =
       c.in_ok-add_name.ensures.names
           ∙ rw (c.if-not-branch.false, c.loop-line.invariant.0, more, one, append_assoc) refl,
       rw (c.in_ok-add_name.ensures.names, c.if-not-branch.false)
-          (distinct_append ns (n ∷ []) c.loop-line.invariant.1 (λ a. a, tt)
-          (λ m a b. elim b [
+          (distinct_append ns (n ∷ []) c.loop-line.invariant.1 (λ a. a, tt) (λ m a b. elim b [
             | inl e ↦ both_ways _ new (among_in ns n (rw (← e) at a))
             | inr a ↦ absurd a
           ])),

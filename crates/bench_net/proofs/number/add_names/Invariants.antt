@@ -1,6 +1,5 @@
 use Rattle.std.proofs.Common.{◌≡◌, ◌++◌, take}
-use Rattle.bench_net.specs.reader.Parsed.{names_of}
-use Rattle.bench_net.specs.reader.Entries.{names_in}
+use Rattle.bench_net.specs.reader.{Parsed.names_of, Entries.names_in}
 use Rattle.list_lemmas.proofs.Distinct.{Distinct}
 use Rattle.bench_net.proofs.number.add_names.Given as goal
 

@@ -1,6 +1,5 @@
 use Rattle.std.proofs.Common.{◌≡◌, ◌+◌, length, take}
-use Rattle.bench_net.specs.reader.Parsed.{names_of}
-use Rattle.bench_net.specs.reader.Entries.{names_in, AreNumberedLines}
+use Rattle.bench_net.specs.reader.{Parsed.names_of, Entries.{names_in, AreNumberedLines}}
 use Rattle.bench_net.proofs.number.number_lines.Given as goal
 
 abbrev pub invariant-loop-line : goal.invariant-loop-line

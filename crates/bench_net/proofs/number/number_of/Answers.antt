@@ -1,8 +1,6 @@
-use Rattle.std.proofs.Common.{◌∙◌, sym, []}
-use Rattle.std.proofs.lemmas.List.{get_or-map}
+use Rattle.std.proofs.{Common.{◌∙◌, sym, []}, lemmas.List.get_or-map}
 use Rattle.std.proofs.lemmas.List.Quantifiers.{position-Some}
-use Rattle.bench_net.proofs.Names.{same_bytes}
-use Rattle.bench_net.proofs.NumberedLines.{key_in}
+use Rattle.bench_net.proofs.{Names.same_bytes, NumberedLines.key_in}
 use Rattle.bench_net.proofs.number.number_of.Goals as goal
 
 pub returns-in-Some-clause-named : goal.returns-in-Some-clause-named

@@ -1,8 +1,6 @@
-use Rattle.std.proofs.Common.{◌∙◌, arith, inr}
-use Rattle.std.proofs.lemmas.List.Folds.{list_all-map, list_all_at}
+use Rattle.std.proofs.{Common.{◌∙◌, arith, inr}, lemmas.List.Folds.{list_all-map, list_all_at}}
 use Rattle.std.proofs.lemmas.Result.{err_from_is_err_and}
-use Rattle.bench_net.specs.reader.Parsed.{names_of}
-use Rattle.bench_net.specs.reader.Entries.{is_in}
+use Rattle.bench_net.specs.reader.{Parsed.names_of, Entries.is_in}
 use Rattle.bench_net.proofs.number.number_pins.Goals as goal
 
 pub returns-in_err-number-clause-refused : goal.returns-in_err-number-clause-refused

@@ -1,22 +1,18 @@
 use Rattle.std.proofs.Common.{inr, arith, [], append-nil, ◌∙◌, sym, refl}
 use Rattle.std.proofs.lemmas.Result.{err_from_is_err_and}
-use Rattle.bench_net.specs.reader.Parsed.{names_of}
-use Rattle.bench_net.specs.reader.Entries.{AreWithin, names_in}
+use Rattle.bench_net.specs.reader.{Parsed.names_of, Entries.{AreWithin, names_in}}
 use Rattle.bench_net.proofs.NumberedLines.{past, within, assembled, counted_few, counted_past}
-use Rattle.bench_net.proofs.read.read_lines.Goals as goal
 use Rattle.bench_net.proofs.read.read_lines.Goals.{After-number_names}
+use Rattle.bench_net.proofs.read.read_lines.Goals as goal
 
 fits : (c : After-number_names) → AreWithin c.args.text.now c.as_slice-stated.result.now
-fits c =
-    within c.args.text.now c.as_slice-stated.result.now
+fits c = within c.args.text.now c.as_slice-stated.result.now
     (rw c.as_slice-stated.ensures.value c.in_ok-read.ensures.ok) (omega arith)
     (counted_few _ _ c.counts_of.result c.counts_of.ensures c.in_default.ensures.none)
 
 pub returns-in-Some-clause-refused : goal.returns-in-Some-clause-refused
-returns-in-Some-clause-refused c =
-    inr (past c.args.text.now c.as_slice-stated.result.now
-    (rw c.as_slice-stated.ensures.value c.in_ok-read.ensures.ok) (omega arith)
-    c.in-Some.limit
+returns-in-Some-clause-refused c = inr (past c.args.text.now c.as_slice-stated.result.now
+    (rw c.as_slice-stated.ensures.value c.in_ok-read.ensures.ok) (omega arith) c.in-Some.limit
     (counted_past _ _ c.counts_of.result c.in-Some.limit c.counts_of.ensures
     c.in-Some.ensures.past))
 
@@ -24,8 +20,7 @@ pub number_lines-requires-clause-own : goal.number_lines-requires-clause-own
 number_lines-requires-clause-own c = (
   [],
   [],
-  c.in_ok-numbers.ensures.numbered
-      ∙ sym (append-nil (names_in c.as_slice-stated.result.now)),
+  c.in_ok-numbers.ensures.numbered ∙ sym (append-nil (names_in c.as_slice-stated.result.now)),
   refl,
 )
 
@@ -45,8 +40,7 @@ returns-in_err-lines-clause-refused c =
     (fits (goal.at.returns-in_err-lines-clause-refused c).After-number_names))
 
 pub returns-clause-lines : goal.returns-clause-lines
-returns-clause-lines c =
-    rw c.in_ok-names.ensures.named
+returns-clause-lines c = rw c.in_ok-names.ensures.named
     (assembled c.args.text.now c.as_slice-stated.result.now
     (fits (goal.at.returns-clause-lines c).After-number_names)
     (names_of c.in_ok-numbers.numbers.keys) c.in_ok-lines.lines.items c.in_ok-at.at.items

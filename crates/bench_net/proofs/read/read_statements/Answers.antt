@@ -1,20 +1,18 @@
 use Rattle.std.proofs.Common.{◌≡◌, ◌∙◌, ◌+◌, ◌==◌, map, rules, arith, ap, suc, length}
-use Rattle.std.proofs.lemmas.List.{map_push, append-nil}
-use Rattle.std.proofs.lemmas.Grind.{common_steps}
+use Rattle.std.proofs.lemmas.{List.{map_push, append-nil}, Grind.common_steps}
 use Rattle.std.proofs.lemmas.Iterator.Consumers.{YieldsList-from_first, YieldsList-turn}
 use Rattle.std.proofs.lemmas.Iterator.Consumers.{YieldsList-end, YieldsList-so_far}
 use Rattle.std.proofs.lemmas.Result.{err_from_is_err_and}
-use Rattle.text_lines.specs.Lines.{lines}
-use Rattle.text_lines.specs.Reading.{lines_left}
-use Rattle.bench_net.specs.reader.Entries.{entry_of}
+use Rattle.text_lines.specs.{Lines.lines, Reading.lines_left}
+use Rattle.bench_net.specs.{reader.Entries.entry_of, declared.BenchFault.TheVariants.Syntax}
 use Rattle.bench_net.proofs.NumberedLines.{given_more, refused_line, may_be}
-use Rattle.bench_net.specs.declared.BenchFault.TheVariants.{Syntax}
 use Rattle.bench_net.proofs.read.read_statements.Goals as goal
 
 pub overflow_add-number : goal.overflow_add-number
 overflow_add-number c =
     let road = YieldsList-from_first (λ x. x.now) lines_left (lines c.args.text.now)
-    (ap lines_left c.into_iter-line-iterator.ensures.into_iter_gives ∙ c.new-line-items.ensures.lines) in
+    (ap lines_left c.into_iter-line-iterator.ensures.into_iter_gives
+    ∙ c.new-line-items.ensures.lines) in
     let turn = YieldsList-turn road c.loop-line.yielded _ c.loop-line.yielded_by _ c.next.new.self
     c.in-Some.line c.in-Some.is c.next.ensures.steps in
     let few = rw c.new-line-items.ensures.lines at c.new-line-items.ensures.few in
@@ -38,7 +36,8 @@ loop-line-preserved-in-Continue-branch-4 c =
 pub returns-in_err-statement-clause-refused : goal.returns-in_err-statement-clause-refused
 returns-in_err-statement-clause-refused c =
     let road = YieldsList-from_first (λ x. x.now) lines_left (lines c.args.text.now)
-    (ap lines_left c.into_iter-line-iterator.ensures.into_iter_gives ∙ c.new-line-items.ensures.lines) in
+    (ap lines_left c.into_iter-line-iterator.ensures.into_iter_gives
+    ∙ c.new-line-items.ensures.lines) in
     let turn = YieldsList-turn road c.loop-line.yielded _ c.loop-line.yielded_by _ c.next.new.self
     c.in-Some.line c.in-Some.is c.next.ensures.steps in
     let front = YieldsList-so_far road c.loop-line.yielded _ c.loop-line.yielded_by in
@@ -58,7 +57,8 @@ returns-in_err-statement-clause-refused c =
 pub returns-clause-ok : goal.returns-clause-ok
 returns-clause-ok c =
     let road = YieldsList-from_first (λ x. x.now) lines_left (lines c.args.text.now)
-    (ap lines_left c.into_iter-line-iterator.ensures.into_iter_gives ∙ c.new-line-items.ensures.lines) in
+    (ap lines_left c.into_iter-line-iterator.ensures.into_iter_gives
+    ∙ c.new-line-items.ensures.lines) in
     let t = YieldsList-end road c.loop-line.yielded _ c.loop-line.yielded_by _ c.next.new.self
     c.in-None.is c.next.ensures.steps in
     rw t.0 at c.loop-line.invariant.1

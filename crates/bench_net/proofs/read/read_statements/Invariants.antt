@@ -1,6 +1,5 @@
 use Rattle.std.proofs.Common.{◌≡◌, ◌+◌, length}
-use Rattle.bench_net.specs.reader.Entries.{entries_of, AreStatedFrom}
-use Rattle.bench_net.proofs.NumberedLines.{given}
+use Rattle.bench_net.{specs.reader.Entries.{entries_of, AreStatedFrom}, proofs.NumberedLines.given}
 use Rattle.bench_net.proofs.read.read_statements.Given as goal
 
 abbrev pub invariant-loop-line : goal.invariant-loop-line

@@ -1,6 +1,5 @@
 use Rattle.std.proofs.Common.{◌≡◌, ◌++◌, drop}
-use Rattle.bench_net.specs.declared.Sink.TheVariants.{Out}
-use Rattle.bench_net.specs.Tables.{readers_from}
+use Rattle.bench_net.specs.{declared.Sink.TheVariants.Out, Tables.readers_from}
 use Rattle.bench_net.proofs.sinks.add_outputs.Given as goal
 
 abbrev pub invariant-loop-output : goal.invariant-loop-output

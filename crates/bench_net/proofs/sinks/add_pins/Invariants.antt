@@ -1,6 +1,5 @@
 use Rattle.std.proofs.Common.{◌≡◌, ◌++◌, drop}
-use Rattle.bench_net.specs.declared.Sink.TheVariants.{Pin}
-use Rattle.bench_net.specs.Tables.{readers_from}
+use Rattle.bench_net.specs.{declared.Sink.TheVariants.Pin, Tables.readers_from}
 use Rattle.bench_net.proofs.sinks.add_pins.Given as goal
 
 abbrev pub invariant-loop-pin : goal.invariant-loop-pin

@@ -1,7 +1,5 @@
-use Rattle.std.proofs.Common.{◌≡◌, arith, length, map}
-use Rattle.std.proofs.lemmas.List.{length-map}
-use Rattle.bench_net.specs.declared.Sink.TheVariants.{Out}
-use Rattle.bench_net.specs.Tables.{reader_at, signal_read}
+use Rattle.std.proofs.{Common.{◌≡◌, arith, length, map}, lemmas.List.length-map}
+use Rattle.bench_net.specs.{declared.Sink.TheVariants.Out, Tables.{reader_at, signal_read}}
 use Rattle.bench_net.proofs.KeyRows.{spot, placing_more, all_placed, key_at}
 use Rattle.bench_net.proofs.sinks.placed_sinks.Goals as goal
 

@@ -1,6 +1,5 @@
 use Rattle.std.proofs.Common.{map}
-use Rattle.bench_net.specs.declared.Sink.TheVariants.{Out}
-use Rattle.bench_net.specs.Tables.{reader_at, signal_read}
+use Rattle.bench_net.specs.{declared.Sink.TheVariants.Out, Tables.{reader_at, signal_read}}
 use Rattle.bench_net.proofs.KeyRows.{Placing}
 use Rattle.bench_net.proofs.sinks.placed_sinks.Given as goal
 

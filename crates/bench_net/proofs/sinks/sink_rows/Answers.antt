@@ -1,6 +1,5 @@
 use Rattle.std.proofs.Common.{arith, refl, length, map}
-use Rattle.bench_net.specs.Rows.{rows_before}
-use Rattle.bench_net.specs.Tables.{signal_read}
+use Rattle.bench_net.specs.{Rows.rows_before, Tables.signal_read}
 use Rattle.bench_net.proofs.KeyRows.{sink_rows_are}
 use Rattle.bench_net.proofs.sinks.sink_rows.Goals as goal
 
@@ -18,5 +17,4 @@ returns c =
       starts_are =
           rw (c.deref.ensures.value, c.in_ok-keys.ensures) at c.in_ok-starts.ensures.starts;
       places_are = refl;
-    })
-    (rw (c.in_ok-from_slice.ensures.items, c.deref-2.ensures.value) at c.in_ok-sinks.ensures)
+    }) (rw (c.in_ok-from_slice.ensures.items, c.deref-2.ensures.value) at c.in_ok-sinks.ensures)

@@ -1,5 +1,4 @@
-use Rattle.std.proofs.Common.{◌≡◌, ◌++◌, length}
-use Rattle.std.specs.Prelude.{option_map}
+use Rattle.std.{proofs.Common.{◌≡◌, ◌++◌, length}, specs.Prelude.option_map}
 use Rattle.bench_net.specs.reader.Parsed.{names_of, args_in}
 use Rattle.bench_net.proofs.statement.read_arguments.Given as goal
 

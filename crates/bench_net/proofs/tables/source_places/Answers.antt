@@ -1,5 +1,4 @@
-use Rattle.std.proofs.Common.{◌≡◌, length}
-use Rattle.std.proofs.Common.{arith}
+use Rattle.std.proofs.Common.{◌≡◌, length, arith}
 use Rattle.bench_net.proofs.LineTables.{places_more}
 use Rattle.bench_net.proofs.tables.source_places.Goals as goal
 

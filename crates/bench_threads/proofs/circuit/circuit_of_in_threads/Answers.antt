@@ -1,9 +1,7 @@
-use Rattle.std.proofs.lemmas.Result.{err_from_is_err_and}
-use Rattle.std.proofs.Common.{◌∙◌, sym, ◌≡◌, ◌∙◌, List, arith, ap, [], length}
-use Rattle.std.specs.Prelude.{false, ◌==◌, vec_len}
+use Rattle.std.{proofs.lemmas.Result.err_from_is_err_and, specs.Prelude.{false, ◌==◌, vec_len}}
+use Rattle.std.proofs.Common.{◌∙◌, sym, ◌≡◌, List, arith, ap, [], length}
 use Rattle.std.proofs.lemmas.Bool.{false≢true, eq-eqb}
-use Rattle.bench_net.specs.declared.read.Lines.{Lines}
-use Rattle.bench_net.specs.Statement.{Name}
+use Rattle.bench_net.specs.{declared.read.Lines.Lines, Statement.Name}
 use Rattle.bench_net.proofs.Public.{circuit_of_tables, inside_of_tables, refused_lines, table_count}
 use Rattle.bench_net.proofs.Public.{table_lines}
 use Rattle.bench_threads.proofs.circuit.circuit_of_in_threads.Goals as goal
@@ -19,8 +17,7 @@ pub tables_of_in_threads-requires : goal.tables_of_in_threads-requires
 tables_of_in_threads-requires g c = rw (c.deref.ensures.value, c.deref-2.ensures.value) (record {
   lines = table_lines
       (ns_of c.args.lines) c.args.lines.lines.items c.args.lines.at.items c.requires;
-  at = c.requires.line_count
-      ∙ sym (table_count
+  at = c.requires.line_count ∙ sym (table_count
       (ns_of c.args.lines) c.args.lines.lines.items c.args.lines.at.items c.requires);
 })
 
@@ -42,7 +39,6 @@ returns-clause-accepted g c = (
 pub returns-in_err-tables-clause-refused : goal.returns-in_err-tables-clause-refused
 returns-in_err-tables-clause-refused g c =
     let p = err_from_is_err_and c.from_residual.result c.from_residual.ensures.1 in
-    rw (p.1, p.2) (refused_lines
-    (ns_of c.args.lines) c.args.lines.lines.items c.args.lines.at.items
+    rw (p.1, p.2) (refused_lines (ns_of c.args.lines) c.args.lines.lines.items c.args.lines.at.items
     c.requires c.in_err-tables.field-0.0
     (rw (c.deref.ensures.value, c.deref-2.ensures.value) at c.in_err-tables.ensures.fault))

@@ -1,9 +1,7 @@
-use Rattle.std.proofs.Common.{◌≢◌, subst, sym}
-use Rattle.std.specs.Prelude.{AllPairs}
-use Rattle.bench_net.specs.Stored.{AreLinesOf}
-use Rattle.bench_net.specs.reader.Parsed.{names_of}
-use Rattle.bench_threads.specs.Stretches.{joined}
+use Rattle.std.{proofs.Common.{◌≢◌, subst, sym}, specs.Prelude.AllPairs}
+use Rattle.bench_net.specs.{Stored.AreLinesOf, reader.Parsed.names_of}
 use Rattle.bench_net.proofs.Public.{assembled, within_limits}
+use Rattle.bench_threads.specs.Stretches.{joined}
 use Rattle.bench_threads.proofs.in_threads.lines_by_threads.Goals as goal
 
 pub returns : goal.returns

@@ -7,8 +7,7 @@ use Rattle.bench_threads.proofs.numbering.names_before.Goals as goal
 use Rattle.bench_threads.proofs.numbering.names_before.Goals.{After-stretch-item}
 
 -- the number of names of this stretch, and of the stretches up to it
-more : (c : After-stretch-item)
-    → (c.stretch-item.result.counts.signals
+more : (c : After-stretch-item) → (c.stretch-item.result.counts.signals
     ≡ length (names_in c.stretch-item.result.stated.items))
     × (c.loop-stretch.count + c.stretch-item.result.counts.signals ≤ 1000000)
     × (length (names_in (joined (take (c.loop-stretch.stretch-index + 1) c.args.stretches.now)))

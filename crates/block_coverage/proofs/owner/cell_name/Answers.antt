@@ -1,5 +1,4 @@
-use Rattle.std.proofs.Common.{◌≡◌, ◌∙◌, ap, sym}
-use Rattle.std.specs.Prelude.{Some, map, option_map, slice_get}
+use Rattle.std.{proofs.Common.{◌≡◌, ◌∙◌, ap, sym}, specs.Prelude.{Some, map, option_map, slice_get}}
 use Rattle.std.proofs.lemmas.Option.{slice_get-map}
 use Rattle.bench_net.specs.Scan.{cells, name_of, signal}
 use Rattle.block_coverage.proofs.SignalNames.{q_named, signal_named, stored_at}

@@ -1,10 +1,7 @@
-use Rattle.std.proofs.Common.{◌≡◌, ◌∙◌, [], ap, subst}
+use Rattle.std.proofs.{Common.{◌≡◌, ◌∙◌, [], ap, subst}, lemmas.Option.slice_get-map}
 use Rattle.std.specs.Prelude.{Contains, Some, option_map, unwrap_or}
-use Rattle.std.proofs.lemmas.Option.{slice_get-map}
-use Rattle.list_lemmas.proofs.Members.{contained}
-use Rattle.list_lemmas.proofs.Places.{at_place, within_place}
-use Rattle.block_coverage.specs.Blocks.{fault_name, owner}
-use Rattle.block_coverage.proofs.Owners.{owned}
+use Rattle.list_lemmas.proofs.{Members.contained, Places.{at_place, within_place}}
+use Rattle.block_coverage.{specs.Blocks.{fault_name, owner}, proofs.Owners.owned}
 use Rattle.block_coverage.proofs.owner.name_of.Goals as goal
 
 pub owner_of-requires : goal.owner_of-requires
@@ -22,8 +19,6 @@ returns c =
     let circuit = c.args.circuit.now in
     let at = within_place c.args.list.now.list c.args.fault c.requires.in_range in
     let own : c.line_of.result ≡ at.0.line = rw (at.1) at c.line_of.ensures in
-    let named = subst (λ l. owner circuit l ≡ Some c.owner_of.result.now) own
-    c.owner_of.ensures in
+    let named = subst (λ l. owner circuit l ≡ Some c.owner_of.result.now) own c.owner_of.ensures in
     slice_get-map (fault_name circuit) c.args.list.now.list c.args.fault
-    ∙ (ap (option_map (fault_name circuit)) at.1
-    ∙ ap (λ o. Some (unwrap_or o [])) named)
+    ∙ (ap (option_map (fault_name circuit)) at.1 ∙ ap (λ o. Some (unwrap_or o [])) named)

@@ -1,13 +1,11 @@
 use Rattle.std.proofs.Common.{◌≡◌, ◌<◌, ◌≤◌, ◌∙◌, ℕ, List, ap, sym, subst, length, get_or, map}
-use Rattle.std.proofs.Common.{arith}
-use Rattle.std.specs.Prelude.{All, Result, Ok, Err, IfOk}
+use Rattle.std.{proofs.Common.arith, specs.Prelude.{All, Result, Ok, Err, IfOk}}
 use Rattle.std.proofs.lemmas.List.{length-map}
-use Rattle.block_coverage.specs.declared.rows.BlockRow.{BlockRow}
+use Rattle.block_coverage.specs.{declared.rows.BlockRow.BlockRow, Tallies.AreSortedRows}
 use Rattle.block_coverage.specs.Blocks.{AreBlockRows, cells_in, fault_name, fault_names}
-use Rattle.block_coverage.specs.Tallies.{AreSortedRows}
 use Rattle.block_coverage.proofs.SortedBlocks.{listed_within, rows_some, sorted_rows}
-use Rattle.block_coverage.proofs.rows.block_rows.Goals as goal
 use Rattle.block_coverage.proofs.rows.block_rows.Goals.{After-count, After-sorted}
+use Rattle.block_coverage.proofs.rows.block_rows.Goals as goal
 
 -- the listed rows, as they are lent
 lent : (c : After-count) → (k : ℕ) (d : BlockRow) → k < length c.deref.result.now
@@ -55,8 +53,7 @@ sorted_are c =
     (λ sorted. AreBlockRows c.byte.result names c.args.detected.now (map cells_in sorted.items))
     c.sorted.result
     (λ sorted by. sorted_rows c.byte.result names c.args.detected.now rows sorted.items
-    c.in_ok-rows.ensures.rows
-    (subst (λ n. AreSortedRows n rows sorted.items) count
+    c.in_ok-rows.ensures.rows (subst (λ n. AreSortedRows n rows sorted.items) count
     (subst (λ l. AreSortedRows c.count.result l sorted.items) c.deref.ensures.value by)))
     c.sorted.ensures
 

@@ -1,10 +1,8 @@
-use Rattle.std.proofs.Common.{◌≡◌, ◌<◌, ◌+◌, ◌∙◌, ◌++◌, ◌∷◌, [], ap, sym, subst, take}
-use Rattle.std.proofs.Common.{length, arith}
-use Rattle.std.specs.Prelude.{false}
+use Rattle.std.proofs.Common.{◌≡◌, ◌<◌, ◌+◌, ◌∙◌, ◌++◌, ◌∷◌, [], ap, sym, subst, take, length}
+use Rattle.std.{proofs.Common.arith, specs.Prelude.false}
 use Rattle.std.proofs.lemmas.List.{length-map, length-take-le, take_more}
 use Rattle.std.proofs.lemmas.Option.{get_or_from_slice_get, slice_get_within}
-use Rattle.block_coverage.specs.Blocks.{fault_name, fault_names}
-use Rattle.block_coverage.specs.Tallies.{IsTally}
+use Rattle.block_coverage.specs.{Blocks.{fault_name, fault_names}, Tallies.IsTally}
 use Rattle.block_coverage.proofs.Owners.{few_faults}
 use Rattle.block_coverage.proofs.rows.listed_rows.Goals as goal
 

@@ -1,6 +1,5 @@
 use Rattle.std.proofs.Common.{take}
-use Rattle.block_coverage.specs.Blocks.{fault_names}
-use Rattle.block_coverage.specs.Tallies.{IsTally}
+use Rattle.block_coverage.specs.{Blocks.fault_names, Tallies.IsTally}
 use Rattle.block_coverage.proofs.rows.listed_rows.Given as goal
 
 -- the faults so far are counted

@@ -2,15 +2,12 @@ use Rattle.std.proofs.Common.{◌<◌, ◌^◌, sym, ◌∙◌, ap, length, arit
 use Rattle.std.specs.Prelude.{slice_index_or, bit_and, bit_xor}
 use Rattle.bench_net.specs.declared.Sink.TheVariants as sink
 use Rattle.fault_model.specs.Detection.{name_on}
-use Rattle.block_sim.specs.PropagationState.{IsAsLarge}
-use Rattle.block_sim.specs.Propagation.{IsSettled}
-use Rattle.flat_circuit.specs.Stuck.{stuck_fault}
-use Rattle.flat_circuit.proofs.Public.{output_observed, data_observed, lane_zero, only_lanes}
-use Rattle.flat_circuit.proofs.Public.{lane_of_zero}
+use Rattle.block_sim.specs.{PropagationState.IsAsLarge, Propagation.IsSettled}
 use Rattle.block_sim.proofs.FaultStart.{shown_none, shown_at_observer, turned_is}
 use Rattle.block_sim.proofs.LineStarts.{is_carried, is_on_name, pin_counted, starts_on_pin}
-use Rattle.block_sim.proofs.LineStarts.{starts_on_stem}
-use Rattle.block_sim.proofs.Moments.{large_enough}
+use Rattle.block_sim.proofs.{LineStarts.starts_on_stem, Moments.large_enough}
+use Rattle.flat_circuit.{specs.Stuck.stuck_fault, proofs.Public.lane_of_zero}
+use Rattle.flat_circuit.proofs.Public.{output_observed, data_observed, lane_zero, only_lanes}
 use Rattle.block_sim.proofs.fault_site.propagate_fault.Goals as goal
 
 pub carried-signal-requires-clause-named : goal.carried-signal-requires-clause-named
@@ -37,8 +34,7 @@ returns-then-excited-eq0-clause-shown c = λ tests group words.
     let carried = is_carried circuit c.args.fault.model fault well c.requires.listed number
     c.carried-signal.ensures in
     shown_none circuit tests group fault good carried.name well words carried.on
-    (IsSettled c.args.extent 0) lanes
-    (bit_and (bit_xor word (slice_index_or good number 0)) lanes)
+    (IsSettled c.args.extent 0) lanes (bit_and (bit_xor word (slice_index_or good number 0)) lanes)
     (turned_is circuit fault good lanes number word carried.name carried.is c.word.ensures) 0
     (λ k lt. lane_of_zero _ k c.if-excited-eq0.true) lane_zero
 

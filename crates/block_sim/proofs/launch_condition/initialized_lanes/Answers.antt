@@ -1,22 +1,17 @@
 use Rattle.std.proofs.Common.{◌≢◌, ◌+◌, ◌*◌, ◌<◌, ◌^◌, ap, arith, inl, inr, map, subst, sym}
-use Rattle.std.specs.Prelude.{[], bit_and, slice_index_or}
-use Rattle.std.specs.Bool.{Decides}
-use Rattle.bench_net.specs.Scan.{names, signal}
-use Rattle.bench_net.proofs.Public.{name_of-signal}
-use Rattle.list_lemmas.proofs.Places.{place_within}
-use Rattle.fault_model.specs.Detection.{IsInitialized}
-use Rattle.fault_model.specs.Fault.{Fault}
-use Rattle.fault_model.specs.Reordered.{moved_line}
-use Rattle.fault_model.proofs.Public.{same_bits}
-use Rattle.flat_circuit.specs.Origins.{IsStuckOf}
-use Rattle.flat_circuit.specs.Words.{lane}
-use Rattle.block_sim.proofs.BitBefore.{fits_where, masked_look_back}
-use Rattle.flat_circuit.proofs.Public.{reordered, well_there, carried_is, starts_there}
+use Rattle.std.specs.{Prelude.{[], bit_and, slice_index_or}, Bool.Decides}
 use Rattle.std.proofs.lemmas.Option.{slice_get-get_or}
-use Rattle.block_sim.proofs.launch_condition.initialized_lanes.Goals as goal
+use Rattle.bench_net.{specs.Scan.{names, signal}, proofs.Public.name_of-signal}
+use Rattle.list_lemmas.proofs.Places.{place_within}
+use Rattle.fault_model.specs.{Detection.IsInitialized, Fault.Fault, Reordered.moved_line}
+use Rattle.fault_model.proofs.Public.{same_bits}
+use Rattle.flat_circuit.specs.{Origins.IsStuckOf, Words.lane}
+use Rattle.flat_circuit.proofs.Public.{reordered, well_there, carried_is, starts_there}
+use Rattle.block_sim.proofs.BitBefore.{fits_where, masked_look_back}
 use Rattle.block_sim.proofs.launch_condition.initialized_lanes.Goals.{then-stuck, else-stuck}
 use Rattle.block_sim.proofs.launch_condition.initialized_lanes.Goals.{then-group-eq0}
 use Rattle.block_sim.proofs.launch_condition.initialized_lanes.Goals.{else-group-eq0}
+use Rattle.block_sim.proofs.launch_condition.initialized_lanes.Goals as goal
 
 pub origin_of-origin-requires : goal.origin_of-origin-requires
 origin_of-origin-requires c =
@@ -68,16 +63,14 @@ returns c = λ f k starts lt listed.
       | else-stuck w ↦ inr (w.if-stuck.false, w.fits-is)
     ]) in
     let all = masked_look_back circuit job.tests.tests c.args.group k before c.if-stuck.fits
-    f.line bit lt listed
-    (λ t e.
+    f.line bit lt listed (λ t e.
     let word = c.word_before-before.ensures there job.tests.tests k t
     (moved_line circuit there f.line) named.0 bit
     (well_there circuit there well arranged) c.words-words.ensures.fault_free lt e named.1
     named.2 named.3 in
     let bits = same_bits circuit there well (reordered circuit there well arranged)
     (slice_index_or job.tests.tests t []) f.line bit in
-    (λ h. bits.1 (word.0 h), λ h. word.1 (bits.0 h)))
-    fit c.if-group-eq0.earlier
+    (λ h. bits.1 (word.0 h), λ h. word.1 (bits.0 h))) fit c.if-group-eq0.earlier
     (elim c.if-group-eq0.branch [
       | then-group-eq0 w ↦ inl (w.if-group-eq0.true, w.earlier-is)
       | else-group-eq0 w ↦ let some : c.args.group ≢ 0 = w.if-group-eq0.false in

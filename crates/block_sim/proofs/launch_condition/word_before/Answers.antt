@@ -1,10 +1,9 @@
 use Rattle.std.proofs.Common.{◌≡◌, ◌<◌, ◌+◌, ◌-◌, ◌∙◌, suc, ap, arith, subst, length, map}
 use Rattle.std.specs.Prelude.{None}
-use Rattle.flat_circuit.specs.Words.{lane, AreWords}
+use Rattle.flat_circuit.{specs.Words.{lane, AreWords}, proofs.Public.each_row}
 use Rattle.block_sim.proofs.BitBefore.{bits_before}
-use Rattle.flat_circuit.proofs.Public.{each_row}
-use Rattle.block_sim.proofs.launch_condition.word_before.Goals as goal
 use Rattle.block_sim.proofs.launch_condition.word_before.Goals.{then-group-eq0, else-group-eq0}
+use Rattle.block_sim.proofs.launch_condition.word_before.Goals as goal
 
 pub returns : goal.returns
 returns c = λ circuit tests k t l n bit well free lt e at named is.
@@ -12,8 +11,7 @@ returns c = λ circuit tests k t l n bit well free lt e at named is.
     c.one_lane_up.result l n bit well lt e at named is
     c.of-2.result.now (free c.args.group c.of-2.result.now c.of-2.ensures).1
     (λ j few. let one : suc j ≡ j + 1 = omega arith in ap (lane c.one_lane_up.result) one
-    ∙ c.one_lane_up.ensures.later j few)
-    (λ b before. elim c.if-group-eq0.branch [
+    ∙ c.one_lane_up.ensures.later j few) (λ b before. elim c.if-group-eq0.branch [
       | then-group-eq0 w ↦ absurd (omega (arith, before))
       | else-group-eq0 w ↦
           let which : c.args.group - 1 ≡ b = omega (arith, before) in
@@ -22,8 +20,7 @@ returns c = λ circuit tests k t l n bit well free lt e at named is.
           (free (c.args.group - 1) w.of.result.now w.of.ensures).1 in (
             w.of.result.now,
             own,
-            c.one_lane_up.ensures.first
-                ∙ ap (λ x. lane x 127) w.last-is,
+            c.one_lane_up.ensures.first ∙ ap (λ x. lane x 127) w.last-is,
           )
     ])
 

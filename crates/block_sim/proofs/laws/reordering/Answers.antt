@@ -1,6 +1,5 @@
-use Rattle.block_sim.proofs.ReorderedGates.{same_active, same_flips}
+use Rattle.block_sim.proofs.{ReorderedGates.{same_active, same_flips}, ReorderedStems.same_stems}
 use Rattle.flat_circuit.proofs.Public.{same_readers}
-use Rattle.block_sim.proofs.ReorderedStems.{same_stems}
 use Rattle.block_sim.proofs.laws.reordering.Goals as goal
 
 pub returns-clause-readers : goal.returns-clause-readers

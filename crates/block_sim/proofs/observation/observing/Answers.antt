@@ -1,16 +1,12 @@
 use Rattle.std.proofs.Common.{◌≡◌, ◌<◌, ◌∙◌, ℕ, ◌+◌, ◌*◌, ◌/◌, ap, arith, length, subst, sym}
-use Rattle.std.specs.Prelude.{bit_and}
-use Rattle.std.specs.Bool.{Decides}
+use Rattle.std.specs.{Prelude.bit_and, Bool.Decides}
 use Rattle.bench_net.specs.Scan.{names}
 use Rattle.patterns.specs.Tests.{TestList}
 use Rattle.fault_model.specs.Reordered.{place}
-use Rattle.flat_circuit.specs.BlockSpans.{IsInSpan, one_block}
-use Rattle.flat_circuit.specs.Words.{lane, test_of}
+use Rattle.flat_circuit.specs.{BlockSpans.{IsInSpan, one_block}, Words.{lane, test_of}}
 use Rattle.flat_circuit.proofs.Public.{reordered, circuit_there, lanes_decide}
-use Rattle.block_sim.specs.Flips.{DetectsFlip}
-use Rattle.block_sim.proofs.ArrangedRoom.{room_there}
-use Rattle.block_sim.proofs.ObservingTests.{observing_lanes}
-use Rattle.block_sim.proofs.ReorderedGates.{same_flips}
+use Rattle.block_sim.{specs.Flips.DetectsFlip, proofs.ArrangedRoom.room_there}
+use Rattle.block_sim.proofs.{ObservingTests.observing_lanes, ReorderedGates.same_flips}
 use Rattle.block_sim.proofs.observation.observing.Goals as goal
 
 pub of-good-requires : goal.of-good-requires
@@ -18,8 +14,7 @@ of-good-requires c = omega (arith, c.requires.block, c.words-words.ensures.count
 
 pub place_of-place-requires : goal.place_of-place-requires
 place_of-place-requires c =
-    subst (λ x. c.args.signal < length (names x)) (sym c.words-words.ensures.part)
-    c.requires.signal
+    subst (λ x. c.args.signal < length (names x)) (sym c.words-words.ensures.part) c.requires.signal
 
 pub flip_in_lanes-seen-requires-clause-view : goal.flip_in_lanes-seen-requires-clause-view
 flip_in_lanes-seen-requires-clause-view c = record {
@@ -75,5 +70,4 @@ returns-clause-lanes c =
     let law = same.detected (test_of tests group j) c.args.signal in
     let h = subst (λ s. Decides (lane seen j) (DetectsFlip there (test_of tests group j) s)) stem
     (c.flip_in_lanes-seen.ensures.detection tests group words j lt ((own j lt).1 is)) in
-    (λ e. law.1 (h.0 e), λ d. h.1 (law.0 d))))
-    c.block_word.ensures
+    (λ e. law.1 (h.0 e), λ d. h.1 (law.0 d)))) c.block_word.ensures

@@ -1,11 +1,10 @@
 use Rattle.std.proofs.Common.{◌≡◌, ◌<◌, ◌^◌, arith}
 use Rattle.std.specs.Prelude.{Some, bit_and, slice_get, slice_index_or}
 use lib.Bits.{and_le_r}
-use Rattle.list_lemmas.proofs.Members.{among}
-use Rattle.list_lemmas.proofs.Places.{place_within, placed, within_place}
+use Rattle.list_lemmas.proofs.{Members.among, Places.{place_within, placed, within_place}}
 use Rattle.block_sim.specs.declared.propagation.Followed.{Followed}
-use Rattle.flat_circuit.proofs.Public.{index_of}
 use Rattle.block_sim.proofs.SettledLanes.{one_hit, one_open}
+use Rattle.flat_circuit.proofs.Public.{index_of}
 use Rattle.block_sim.proofs.propagation.below_hits.Goals as goal
 
 pub loop-one-preserved : goal.loop-one-preserved

@@ -1,8 +1,7 @@
-use Rattle.std.proofs.Common.{◌≡◌, ◌<◌, ℕ, Contains, true, false}
-use Rattle.std.specs.Prelude.{Some, slice_get}
+use Rattle.std.{proofs.Common.{◌≡◌, ◌<◌, ℕ, Contains, true, false}, specs.Prelude.{Some, slice_get}}
 use Rattle.block_sim.specs.declared.propagation.Followed.{Followed}
-use Rattle.flat_circuit.specs.Words.{lane}
 use Rattle.block_sim.proofs.SettledLanes.{HasHit, IsOpen}
+use Rattle.flat_circuit.specs.Words.{lane}
 use Rattle.block_sim.proofs.propagation.below_hits.Given as goal
 
 abbrev pub invariant-loop-one : goal.invariant-loop-one

@@ -1,10 +1,8 @@
 use Rattle.std.proofs.Common.{◌<◌, length, arith}
 use Rattle.block_sim.specs.declared.propagation.Extent.TheVariants.{WholeBlock}
-use Rattle.block_sim.specs.Propagation.{IsSettled}
+use Rattle.block_sim.{specs.Propagation.IsSettled, proofs.FlipLanes.{flip_first, flips}}
+use Rattle.block_sim.proofs.{FlipsInLanes.flip_decided, ObservedStems.observed_flip}
 use Rattle.flat_circuit.specs.Words.{test_of}
-use Rattle.block_sim.proofs.FlipLanes.{flip_first, flips}
-use Rattle.block_sim.proofs.FlipsInLanes.{flip_decided}
-use Rattle.block_sim.proofs.ObservedStems.{observed_flip}
 use Rattle.block_sim.proofs.propagation.flip_in_lanes.Goals as goal
 
 pub propagate-requires-clause-first : goal.propagate-requires-clause-first

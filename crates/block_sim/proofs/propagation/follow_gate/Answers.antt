@@ -1,7 +1,5 @@
-use Rattle.std.proofs.Common.{subst}
-use Rattle.std.specs.Prelude.{bit_or}
-use Rattle.block_sim.specs.Moments.{Leads, moment, not_yet_taken}
-use Rattle.block_sim.proofs.SettledLanes.{settled_on}
+use Rattle.std.{proofs.Common.subst, specs.Prelude.bit_or}
+use Rattle.block_sim.{specs.Moments.{Leads, moment, not_yet_taken}, proofs.SettledLanes.settled_on}
 use Rattle.block_sim.proofs.Moments.{leads_narrower, leads_on}
 use Rattle.block_sim.proofs.propagation.follow_gate.Goals as goal
 

@@ -1,28 +1,22 @@
 use Rattle.std.proofs.Common.{◌≡◌, ◌≢◌, ◌≤◌, ℕ, ◌+◌, ◌∙◌, List, ap, arith, length, subst, sym}
-use Rattle.std.specs.Prelude.{slice_index_or, ◌==◌}
-use Rattle.std.proofs.lemmas.List.{length-set}
-use Rattle.fault_model.specs.Fault.{Fault}
-use Rattle.fault_model.specs.Solution.{Test}
+use Rattle.std.{specs.Prelude.{slice_index_or, ◌==◌}, proofs.lemmas.List.length-set}
+use Rattle.fault_model.specs.{Fault.Fault, Solution.Test}
 use Rattle.event_queue.proofs.Public.{index_zero}
-use Rattle.block_sim.specs.PropagationState.{IsTaken}
-use Rattle.block_sim.specs.Moments.{Case, Spreads, moment}
+use Rattle.block_sim.specs.{PropagationState.IsTaken, Moments.{Case, Spreads, moment}}
 use Rattle.block_sim.specs.Propagation.{IsFirstChange, IsSettled}
-use Rattle.block_sim.proofs.EndOfPropagation.{shown_unchanged}
-use Rattle.block_sim.proofs.PendingGates.{count_at_most}
+use Rattle.block_sim.proofs.{EndOfPropagation.shown_unchanged, PendingGates.count_at_most}
 use Rattle.block_sim.proofs.Moments.{large_none, leads_none, leads_on, leads_cleared, leads_higher}
 use Rattle.block_sim.proofs.Moments.{leads_taken, place_within, taken_behind, taken_now}
 use Rattle.block_sim.proofs.WholePropagations.{HasEnded, begins, has_ended}
-use Rattle.block_sim.proofs.propagation.propagate.Goals as goal
 use Rattle.block_sim.proofs.propagation.propagate.Goals.{In-Some, After-clear-2}
+use Rattle.block_sim.proofs.propagation.propagate.Goals as goal
 
 pub returns-then-diff-eq0-clause-shown : goal.returns-then-diff-eq0-clause-shown
 returns-then-diff-eq0-clause-shown c = λ tests group f first.
     let overlay = c.args.changes.now.overlay in
     shown_unchanged c.args.view.circuit.now.arranged tests group f c.args.view.good.now
-    c.args.view.lanes
-    overlay c.args.start c.args.diff (IsSettled c.args.extent 0)
-    c.requires.view.circuit.well_formed
-    (λ t. index_zero overlay t c.requires.clear.words) (omega (
+    c.args.view.lanes overlay c.args.start c.args.diff (IsSettled c.args.extent 0)
+    c.requires.view.circuit.well_formed (λ t. index_zero overlay t c.requires.clear.words) (omega (
       arith,
       c.requires.start,
       c.requires.room.overlay,
@@ -119,8 +113,7 @@ loop-gate-preserved c =
     let next = c.follow_gate-found.ensures in
     let s = spreads at in
     let taken = gate_taken at in
-    let to_gate = leads_on circuit good lanes _ _ _ last.leads
-    (leads_on circuit good lanes _ _ _
+    let to_gate = leads_on circuit good lanes _ _ _ last.leads (leads_on circuit good lanes _ _ _
     (leads_higher circuit good lanes m.overlay m.waiting m.evaluations c.loop-gate.from gate kept
     seen (from_behind at) c.in-Some.ensures.least)
     (leads_taken circuit good lanes m.overlay m.waiting c.next_gate.new.waiting m.evaluations gate
@@ -163,8 +156,7 @@ ended : (c : After-clear-2) (tests : List Test) (group : ℕ) (f : ℕ → Fault
       overlay = c.loop-gate.changes.overlay;
       waiting = c.clear.new.self;
       evaluations = c.loop-gate.changes.evaluations;
-    }) c.args.start
-    c.loop-gate.found.detected (IsSettled c.args.extent c.loop-gate.found.detected)
+    }) c.args.start c.loop-gate.found.detected (IsSettled c.args.extent c.loop-gate.found.detected)
 ended c tests group f first =
     let circuit = c.args.view.circuit.now.arranged in
     let good = c.args.view.good.now in
@@ -177,8 +169,7 @@ ended c tests group f first =
     c.requires.view.circuit.well_formed c.signals-signals.ensures.rising
     c.requires.room c.requires.clear c.requires.start c.change-seen.ensures.changed
     c.change-seen.ensures.scheduled c.if-diff-eq0.false c.change-seen.ensures.some
-    c.requires.inside c.followed-kept.ensures.within tests group f first
-    (record {
+    c.requires.inside c.followed-kept.ensures.within tests group f first (record {
       overlay = m.overlay;
       waiting = c.clear.new.self;
       evaluations = m.evaluations;
@@ -188,8 +179,7 @@ ended c tests group f first =
     (leads_on circuit good lanes _ _ _ c.loop-gate.invariant.leads
     (leads_cleared circuit good lanes m.overlay m.waiting c.clear.new.self m.evaluations
     c.loop-gate.from c.loop-gate.found.followed c.loop-gate.found.detected idle
-    c.in_default.ensures.none.1))
-    c.loop-gate.invariant.settled idle
+    c.in_default.ensures.none.1)) c.loop-gate.invariant.settled idle
 
 pub returns-clause-shown : goal.returns-clause-shown
 returns-clause-shown c = λ tests group f first. (ended c tests group f first).shown

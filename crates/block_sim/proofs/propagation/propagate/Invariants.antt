@@ -1,7 +1,6 @@
 use Rattle.std.proofs.Common.{◌≤◌, ◌-◌, length}
 use Rattle.bench_net.specs.Scan.{names}
-use Rattle.block_sim.specs.PropagationState.{IsAsLarge}
-use Rattle.block_sim.specs.Moments.{Leads, moment}
+use Rattle.block_sim.specs.{PropagationState.IsAsLarge, Moments.{Leads, moment}}
 use Rattle.block_sim.specs.Propagation.{LeavesSettled}
 use Rattle.block_sim.proofs.propagation.propagate.Given as goal
 

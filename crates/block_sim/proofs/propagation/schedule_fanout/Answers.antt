@@ -1,6 +1,5 @@
 use Rattle.std.proofs.Common.{◌<◌, ◌∙◌, ap, arith, length, refl, sym, subst, ◌+◌}
-use Rattle.std.specs.Prelude.{slice_index_or}
-use Rattle.std.proofs.lemmas.List.{length-set}
+use Rattle.std.{specs.Prelude.slice_index_or, proofs.lemmas.List.length-set}
 use Rattle.flat_circuit.proofs.Public.{reader_within}
 use Rattle.block_sim.proofs.ScheduledGates.{HasScheduled, scheduled_none, scheduled_added}
 use Rattle.block_sim.proofs.ScheduledGates.{scheduled_all}
@@ -46,8 +45,7 @@ loop-reader-preserved c =
     }
 
 pub returns-clause-scheduled : goal.returns-clause-scheduled
-returns-clause-scheduled c =
-    scheduled_all c.args.circuit.now.arranged c.args.signal
+returns-clause-scheduled c = scheduled_all c.args.circuit.now.arranged c.args.signal
     c.readers_of-reader-items.result.now c.readers_of-reader-items.ensures
     c.loop-reader.reader-index c.args.waiting.now c.loop-reader.waiting c.loop-reader-test.false
     c.loop-reader.invariant.scheduled

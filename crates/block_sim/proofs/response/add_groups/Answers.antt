@@ -1,6 +1,5 @@
 use Rattle.std.proofs.Common.{◌≡◌, ◌<◌, ◌≤◌, ◌+◌, ◌*◌, ◌∙◌, ap, arith, length, min}
-use Rattle.std.proofs.lemmas.List.{length-map}
-use Rattle.std.proofs.lemmas.Option.{slice_get_within}
+use Rattle.std.proofs.lemmas.{List.length-map, Option.slice_get_within}
 use Rattle.bench_net.specs.Scan.{observers, signal}
 use Rattle.block_sim.proofs.ResponseRows.{group_more}
 use Rattle.block_sim.proofs.response.add_groups.Goals as goal
@@ -42,8 +41,7 @@ loop-group-preserved c =
     ) in
     record {
       rows = group_more c.args.circuit.now.arranged c.args.tests.now.tests group
-          (min (128 * group) n)
-          (min (128 * (group + 1)) n) size
+          (min (128 * group) n) (min (128 * (group + 1)) n) size
           c.loop-group.rows.tests c.add_lanes.new.rows.tests c.evaluate.new.words
           c.args.observed.now c.requires.circuit.well_formed c.evaluate.ensures.words
           c.requires.observed starts few ends c.in_ok-add_lanes.ensures.rows
@@ -62,8 +60,7 @@ returns c =
       c.blocks-2.ensures,
     ) in
     record {
-      width = c.loop-group.invariant.width
-          ∙ (ap length c.requires.observed
+      width = c.loop-group.invariant.width ∙ (ap length c.requires.observed
           ∙ length-map (observers c.args.circuit.now.arranged)
           (λ o. signal c.args.circuit.now.arranged o.1));
       count = c.loop-group.invariant.rows.count ∙ all;

@@ -1,9 +1,7 @@
-use Rattle.std.proofs.Common.{◌∙◌, ap, arith, length, map}
-use Rattle.std.proofs.lemmas.List.{length-append}
+use Rattle.std.proofs.{Common.{◌∙◌, ap, arith, length, map}, lemmas.List.length-append}
 use Rattle.std.proofs.lemmas.List.FromFn.{length-map-range_with_len}
 use Rattle.patterns.specs.Least.{below}
-use Rattle.block_sim.specs.Responses.{lane_row}
-use Rattle.block_sim.proofs.ResponseRows.{lane_more}
+use Rattle.block_sim.{specs.Responses.lane_row, proofs.ResponseRows.lane_more}
 use Rattle.block_sim.proofs.response.add_lanes.Goals as goal
 
 pub add_row-requires-clause-room : goal.add_row-requires-clause-room

@@ -1,5 +1,4 @@
-use Rattle.std.proofs.Common.{◌≡◌, ℕ, ◌<◌, Bool, get_or}
-use Rattle.std.specs.Prelude.{slice_index_or}
+use Rattle.std.{proofs.Common.{◌≡◌, ℕ, ◌<◌, Bool, get_or}, specs.Prelude.slice_index_or}
 use Rattle.flat_circuit.specs.Words.{lane}
 use Rattle.block_sim.proofs.response.read_lane.Given as goal
 

@@ -1,7 +1,5 @@
 use Rattle.std.proofs.Common.{◌≡◌, ◌∙◌, ap, length, map, sym}
-use Rattle.bench_net.specs.declared.Sink.{Sink}
-use Rattle.bench_net.specs.Statement.{Name}
-use Rattle.bench_net.specs.Scan.{observers, signal}
+use Rattle.bench_net.specs.{declared.Sink.Sink, Statement.Name, Scan.{observers, signal}}
 use Rattle.fault_model.specs.Reordered.{place}
 use Rattle.flat_circuit.proofs.Public.{sources_there, well_there}
 use Rattle.block_sim.proofs.ArrangedWords.{observed_there, responses_there}

@@ -1,6 +1,5 @@
 use Rattle.block_sim.specs.declared.propagation.Extent.TheVariants.{WholeBlock}
-use Rattle.block_sim.specs.Propagation.{IsSettled}
-use Rattle.block_sim.proofs.DetectingTests.{decided_lanes}
+use Rattle.block_sim.{specs.Propagation.IsSettled, proofs.DetectingTests.decided_lanes}
 use Rattle.block_sim.proofs.workspace.detecting.Goals as goal
 
 pub returns-clause-lanes : goal.returns-clause-lanes
@@ -11,6 +10,5 @@ returns-clause-lanes c =
       detection.1,
       decided_lanes job.circuit job.tests.tests c.args.block detection.0
           (IsSettled WholeBlock c.detecting_lanes-word.result) c.detecting_lanes-word.result
-          c.block_word.result detection.2
-          c.block_word.ensures (λ k never. never),
+          c.block_word.result detection.2 c.block_word.ensures (λ k never. never),
     )

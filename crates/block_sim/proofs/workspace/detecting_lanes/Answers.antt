@@ -1,23 +1,16 @@
 use Rattle.std.proofs.Common.{◌≡◌, ◌<◌, ℕ, ◌+◌, ◌*◌, sym, ◌∙◌, ap, subst, length, arith}
-use Rattle.std.specs.Prelude.{◌/◌, Contains, Option, bit_and, map, unwrap_or}
-use Rattle.std.specs.Bool.{Decides}
+use Rattle.std.specs.{Prelude.{◌/◌, Contains, Option, bit_and, map, unwrap_or}, Bool.Decides}
 use Rattle.std.proofs.lemmas.List.{length-map}
 use Rattle.patterns.specs.Tests.{TestList}
-use Rattle.fault_model.specs.Fault.{Fault, faults}
-use Rattle.fault_model.specs.Reordered.{moved_fault, place}
-use Rattle.block_sim.specs.Propagation.{AreShown, IsSettled}
-use Rattle.block_sim.specs.Flips.{AreLanesFor}
-use Rattle.flat_circuit.specs.BlockSpans.{AreInSpan, IsInSpan, one_block}
-use Rattle.block_sim.specs.ActiveGates.{HasActive, HasActiveIn}
-use Rattle.flat_circuit.specs.Stuck.{stuck_fault}
-use Rattle.flat_circuit.specs.Words.{lane}
-use Rattle.flat_circuit.proofs.Public.{reordered, carried_name, circuit_there, listed_there}
-use Rattle.flat_circuit.proofs.Public.{moved_there, lanes_decide}
-use Rattle.block_sim.proofs.ArrangedRoom.{room_there}
-use Rattle.block_sim.proofs.ArrangedWords.{told_there}
+use Rattle.fault_model.specs.{Fault.{Fault, faults}, Reordered.{moved_fault, place}}
 use Rattle.fault_model.specs.Detection.{name_on}
-use Rattle.block_sim.proofs.DetectingTests.{active_on_block}
+use Rattle.block_sim.specs.{Propagation.{AreShown, IsSettled}, Flips.AreLanesFor}
+use Rattle.block_sim.{specs.ActiveGates.{HasActive, HasActiveIn}, proofs.ArrangedRoom.room_there}
+use Rattle.block_sim.proofs.{ArrangedWords.told_there, DetectingTests.active_on_block}
 use Rattle.block_sim.proofs.ReorderedGates.{same_active}
+use Rattle.flat_circuit.specs.{BlockSpans.{AreInSpan, IsInSpan, one_block}, Stuck.stuck_fault}
+use Rattle.flat_circuit.{specs.Words.lane, proofs.Public.{moved_there, lanes_decide}}
+use Rattle.flat_circuit.proofs.Public.{reordered, carried_name, circuit_there, listed_there}
 use Rattle.block_sim.proofs.workspace.detecting_lanes.Goals as goal
 
 pub propagate_fault-requires-clause-view : goal.propagate_fault-requires-clause-view
@@ -45,8 +38,7 @@ propagate_fault-requires-clause-listed c =
     c.representative-stuck.result c.moved.result c.words-words.ensures.part c.moved.ensures
     starts.is in
     subst (λ f. Contains (faults f.model there) f) (sym is)
-    (listed_there circuit there well arranged fault.model fault
-    starts.listed)
+    (listed_there circuit there well arranged fault.model fault starts.listed)
 
 pub propagate_fault-requires-clause-words : goal.propagate_fault-requires-clause-words
 propagate_fault-requires-clause-words c = (
@@ -102,8 +94,7 @@ returns-clause-detection c =
       fault,
       c.representative-stuck.ensures.1,
       told_there circuit there well arranged tests span fault good lanes c.propagate_fault.result
-          words
-          decides settled shown,
+          words decides settled shown,
     )
 
 pub returns-clause-counted : goal.returns-clause-counted

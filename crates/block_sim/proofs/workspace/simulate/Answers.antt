@@ -1,6 +1,5 @@
 use Rattle.block_sim.specs.declared.propagation.Extent.TheVariants.{WholeBlock}
-use Rattle.block_sim.specs.Propagation.{IsSettled}
-use Rattle.block_sim.proofs.DetectingTests.{outcome_of_lanes}
+use Rattle.block_sim.{specs.Propagation.IsSettled, proofs.DetectingTests.outcome_of_lanes}
 use Rattle.block_sim.proofs.workspace.simulate.Goals as goal
 
 pub returns-clause-outcome : goal.returns-clause-outcome

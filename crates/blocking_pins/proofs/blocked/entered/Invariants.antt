@@ -1,7 +1,5 @@
-use Rattle.std.proofs.Common.{◌<◌, ℕ}
-use Rattle.std.specs.Bool.{Decides}
-use Rattle.flat_circuit.specs.Stuck.{stuck_fault}
-use Rattle.flat_circuit.specs.Words.{lane}
+use Rattle.std.{proofs.Common.{◌<◌, ℕ}, specs.Bool.Decides}
+use Rattle.flat_circuit.specs.{Stuck.stuck_fault, Words.lane}
 use Rattle.blocking_pins.proofs.Entered.{DiffersBelow}
 use Rattle.blocking_pins.proofs.blocked.entered.Given as goal
 

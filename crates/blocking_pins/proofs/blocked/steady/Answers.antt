@@ -1,8 +1,6 @@
 use Rattle.std.specs.Prelude.{Some, slice_index_or}
-use Rattle.fault_model.specs.declared.Line.TheVariants.{Pin}
-use Rattle.fault_model.specs.Solution.{under}
-use Rattle.flat_circuit.specs.Stuck.{stuck_fault}
-use Rattle.flat_circuit.specs.Words.{lane, word_over}
+use Rattle.fault_model.specs.{declared.Line.TheVariants.Pin, Solution.under}
+use Rattle.flat_circuit.specs.{Stuck.stuck_fault, Words.{lane, word_over}}
 use Rattle.blocking_pins.proofs.SteadyLanes.{steady_lanes}
 use Rattle.blocking_pins.proofs.blocked.steady.Goals as goal
 

@@ -1,26 +1,18 @@
-use Rattle.std.proofs.Common.{◌≡◌, ◌<◌, ◌+◌, ◌*◌, ◌∙◌, ℕ, ap, arith}
-use Rattle.std.proofs.Common.{get_or, length, refl, set, subst}
-use Rattle.std.proofs.Common.{Vec, Global, sym}
-use Rattle.std.specs.Vec.{with_items}
+use Rattle.std.proofs.Common.{◌≡◌, ◌<◌, ◌+◌, ◌*◌, ◌∙◌, ℕ, ap, arith, get_or, length, refl, set}
+use Rattle.std.{proofs.Common.{subst, Vec, Global, sym}, specs.Vec.with_items}
+use Rattle.std.{specs.Prelude.{All, Contains, Some, slice_get}, proofs.lemmas.List.Elements.All-set}
+use Rattle.std.proofs.lemmas.{List.{length-map, length-set}, Option.get_or_from_slice_get}
 use Rattle.patterns.specs.Tests.{TestList}
-use Rattle.flat_circuit.specs.BlockSpans.{groups}
-use Rattle.std.specs.Prelude.{All, Contains, Some, slice_get}
-use Rattle.std.proofs.lemmas.List.{length-map, length-set}
-use Rattle.std.proofs.lemmas.List.Elements.{All-set}
-use Rattle.std.proofs.lemmas.Option.{get_or_from_slice_get}
-use Rattle.fault_model.specs.Detection.{name_on}
-use Rattle.fault_model.specs.Fault.{Fault, faults}
-use Rattle.fault_model.specs.Reordered.{moved_fault}
-use Rattle.list_lemmas.proofs.Places.{place_within, within_place}
-use Rattle.flat_circuit.specs.Stuck.{stuck_fault}
+use Rattle.flat_circuit.specs.{BlockSpans.groups, Stuck.stuck_fault}
 use Rattle.flat_circuit.proofs.Public.{carried_name, circuit_there, listed_there, moved_there}
+use Rattle.fault_model.specs.{Detection.name_on, Fault.{Fault, faults}, Reordered.moved_fault}
+use Rattle.list_lemmas.proofs.Places.{place_within, within_place}
 use Rattle.blocking_pins.specs.Counting.{AreAdded, AreAllAdded, BlocksAtPlace, BlocksInLane}
-use Rattle.blocking_pins.proofs.Adding.{added_same}
-use Rattle.blocking_pins.proofs.AllAdding.{all_added_more, all_added_none}
+use Rattle.blocking_pins.proofs.{Adding.added_same, AllAdding.{all_added_more, all_added_none}}
 use Rattle.blocking_pins.proofs.LaneBlocks.{lane_at_place, place_in_lane}
 use Rattle.blocking_pins.proofs.VecRows.{row_at, rows_of, rows_set, with_items_is}
-use Rattle.blocking_pins.proofs.counting.add_fault.Goals as goal
 use Rattle.blocking_pins.proofs.counting.add_fault.Goals.{After-as_mut_slice-row}
+use Rattle.blocking_pins.proofs.counting.add_fault.Goals as goal
 
 pub moved-moved-requires : goal.moved-moved-requires
 moved-moved-requires c =
@@ -45,8 +37,7 @@ add_group-requires-clause-view c = record {
 
 -- the fault in the numbers of the flat arrays
 is_moved : (c : After-as_mut_slice-row) (f : Fault)
-    → slice_get c.args.job.now.list.list c.args.fault ≡ Some f
-    → stuck_fault c.moved-moved.result
+    → slice_get c.args.job.now.list.list c.args.fault ≡ Some f → stuck_fault c.moved-moved.result
     ≡ moved_fault c.args.job.now.circuit c.args.tables.words.circuit.now.arranged f
 is_moved c f at = moved_there c.args.job.now.circuit c.args.tables.words.circuit.now.arranged
     c.args.tables.words.circuit.now.statements f c.stuck_of-stuck.result c.moved-moved.result
@@ -185,5 +176,4 @@ returns-clause-added c = λ f at.
     ) in
     subst (λ n. AreAllAdded (c.args.fault + 1) (λ group i k. BlocksAtPlace job.circuit
     job.tests.tests f pins i (128 * group + k)) n c.args.counts.now c.loop-group.counts
-    (rows_of c.args.rows.now) (rows_of c.loop-group.rows)) full
-    (c.loop-group.invariant.added f at)
+    (rows_of c.args.rows.now) (rows_of c.loop-group.rows)) full (c.loop-group.invariant.added f at)

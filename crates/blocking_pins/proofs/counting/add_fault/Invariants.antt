@@ -1,9 +1,7 @@
-use Rattle.std.proofs.Common.{◌≡◌, ◌+◌, ◌*◌, length}
-use Rattle.std.specs.Prelude.{All, Some, slice_get}
+use Rattle.std.{proofs.Common.{◌≡◌, ◌+◌, ◌*◌, length}, specs.Prelude.{All, Some, slice_get}}
 use Rattle.fault_model.specs.Fault.{Fault}
 use Rattle.flat_circuit.specs.BlockSpans.{groups}
-use Rattle.blocking_pins.specs.Counting.{AreAllAdded, BlocksAtPlace}
-use Rattle.blocking_pins.specs.Effects.{IsFresh}
+use Rattle.blocking_pins.specs.{Counting.{AreAllAdded, BlocksAtPlace}, Effects.IsFresh}
 use Rattle.blocking_pins.proofs.VecRows.{rows_of}
 use Rattle.blocking_pins.proofs.counting.add_fault.Given as goal
 

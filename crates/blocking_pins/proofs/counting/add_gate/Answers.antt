@@ -1,16 +1,12 @@
-use Rattle.std.proofs.Common.{◌≡◌, ◌<◌, ◌+◌, ◌⊎◌, ◌∙◌, ℕ, arith, get_or}
-use Rattle.std.proofs.Common.{inl, inr, length, sym, true}
-use Rattle.std.specs.Prelude.{Some, slice_get, slice_index_or}
+use Rattle.std.proofs.Common.{◌≡◌, ◌<◌, ◌+◌, ◌⊎◌, ◌∙◌, ℕ, arith, get_or, inl, inr, length, sym}
+use Rattle.std.{proofs.Common.true, specs.Prelude.{Some, slice_get, slice_index_or}}
 use Rattle.std.proofs.lemmas.Option.{slice_get-get_or}
 use Rattle.bench_net.specs.Scan.{gate_of}
-use Rattle.flat_circuit.specs.Stuck.{stuck_fault}
-use Rattle.flat_circuit.specs.Words.{lane}
+use Rattle.flat_circuit.specs.{Stuck.stuck_fault, Words.lane}
 use Rattle.flat_circuit.proofs.Public.{pins_few, pins_within}
-use Rattle.blocking_pins.specs.Blocking.{controlling}
-use Rattle.blocking_pins.specs.Effects.{Stops}
-use Rattle.blocking_pins.proofs.Adding.{added_more, added_same}
+use Rattle.blocking_pins.specs.{Blocking.controlling, Effects.Stops}
+use Rattle.blocking_pins.proofs.{Adding.{added_more, added_same}, GateStops.stops_within}
 use Rattle.blocking_pins.proofs.GateStops.{StopsBelow, blocked_stops, stops_blocked, stops_split}
-use Rattle.blocking_pins.proofs.GateStops.{stops_within}
 use Rattle.blocking_pins.proofs.counting.add_gate.Goals as goal
 
 pub entered-requires-clause-few : goal.entered-requires-clause-few
@@ -86,8 +82,7 @@ returns c =
     added_same c.args.number (StopsBelow circuit f good delta place lanes start c.loop-pin.pin)
     (λ i k. (pin : ℕ) × (i ≡ start + pin) × (lane lanes k ≡ true)
     × Stops circuit f good delta place pin k) c.args.counts.now c.loop-pin.counts c.args.row.now
-    c.loop-pin.row (λ i k low s. (s.0, s.2, s.3, s.4))
-    (λ i k low s. (
+    c.loop-pin.row (λ i k low s. (s.0, s.2, s.3, s.4)) (λ i k low s. (
       s.0,
       (let lt = stops_within circuit f good delta place s.0 k kind pins is s.3 in
           omega (arith, lt, end)),

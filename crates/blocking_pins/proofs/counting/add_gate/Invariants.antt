@@ -1,8 +1,6 @@
 use Rattle.std.proofs.Common.{◌≡◌, ◌<◌, ◌+◌, ℕ, true}
-use Rattle.flat_circuit.specs.Stuck.{stuck_fault}
-use Rattle.flat_circuit.specs.Words.{lane}
-use Rattle.blocking_pins.specs.Counting.{AreAdded}
-use Rattle.blocking_pins.proofs.GateStops.{StopsBelow}
+use Rattle.flat_circuit.specs.{Stuck.stuck_fault, Words.lane}
+use Rattle.blocking_pins.{specs.Counting.AreAdded, proofs.GateStops.StopsBelow}
 use Rattle.blocking_pins.proofs.counting.add_gate.Given as goal
 
 abbrev pub invariant-loop-pin : goal.invariant-loop-pin

@@ -1,15 +1,11 @@
 use Rattle.std.proofs.Common.{◌≡◌, ◌<◌, ◌≤◌, ◌∙◌, ℕ, arith, length, subst, sym}
 use Rattle.std.specs.Prelude.{All, Contains}
 use Rattle.bench_net.specs.Scan.{names}
-use Rattle.fault_model.specs.Fault.{Fault}
-use Rattle.fault_model.specs.Reordered.{moved_fault}
-use Rattle.flat_circuit.specs.Stuck.{stuck_fault}
-use Rattle.flat_circuit.proofs.Public.{reordered}
+use Rattle.fault_model.specs.{Fault.Fault, Reordered.moved_fault}
+use Rattle.flat_circuit.{specs.Stuck.stuck_fault, proofs.Public.reordered}
 use Rattle.blocking_pins.specs.Counting.{AreAdded, BlocksInLane, StopsReached}
-use Rattle.blocking_pins.specs.Effects.{AreFaulty, IsTouched}
-use Rattle.blocking_pins.proofs.Adding.{added_same}
-use Rattle.blocking_pins.proofs.GroupBlocks.{blocks_reached, pins_room}
-use Rattle.blocking_pins.proofs.GroupBlocks.{reached_blocks}
+use Rattle.blocking_pins.{specs.Effects.{AreFaulty, IsTouched}, proofs.Adding.added_same}
+use Rattle.blocking_pins.proofs.GroupBlocks.{blocks_reached, pins_room, reached_blocks}
 use Rattle.blocking_pins.proofs.VecRows.{all_at}
 use Rattle.blocking_pins.proofs.counting.add_group.Goals as goal
 
@@ -43,8 +39,7 @@ returns-clause-added c = λ tests group f words moved.
     → Contains reached g =
     subst (λ x. (g : ℕ) → IsTouched there x delta g → Contains reached g) moved
     (subst (λ l. (g : ℕ) → IsTouched there (stuck_fault c.args.fault) l g → Contains reached g)
-    (sym c.words.ensures)
-    (subst (λ l. (g : ℕ) → IsTouched there (stuck_fault c.args.fault)
+    (sym c.words.ensures) (subst (λ l. (g : ℕ) → IsTouched there (stuck_fault c.args.fault)
     c.spread.new.effect.overlay g → Contains l g) (sym c.deref.ensures.value)
     c.in_ok-spread.ensures.touched)) in
     let listed : All (λ s. s < length (names there)) reached =

@@ -1,18 +1,13 @@
 use Rattle.std.proofs.Common.{◌≡◌, ◌<◌, ◌+◌, ◌∙◌, ℕ, arith, length, subst, true}
-use Rattle.std.specs.Prelude.{slice_index_or}
-use Rattle.std.proofs.lemmas.List.{get_or_default}
-use Rattle.flat_circuit.specs.Stuck.{stuck_fault}
-use Rattle.flat_circuit.specs.Words.{lane}
-use Rattle.blocking_pins.specs.Counting.{AreAdded, StopsAt, StopsReached}
-use Rattle.blocking_pins.specs.Effects.{Stops}
+use Rattle.std.{specs.Prelude.slice_index_or, proofs.lemmas.List.get_or_default}
+use Rattle.flat_circuit.specs.{Stuck.stuck_fault, Words.lane}
+use Rattle.blocking_pins.specs.{Counting.{AreAdded, StopsAt, StopsReached}, Effects.Stops}
 use Rattle.blocking_pins.proofs.Adding.{added_more, added_none, added_same}
-use Rattle.blocking_pins.proofs.GroupBlocks.{ReachedBelow, reached_all}
-use Rattle.blocking_pins.proofs.GroupBlocks.{reached_from, reached_split}
+use Rattle.blocking_pins.proofs.GroupBlocks.{ReachedBelow, reached_all, reached_from, reached_split}
 use Rattle.blocking_pins.proofs.counting.add_reached.Goals as goal
 
 pub loop-place-init : goal.loop-place-init
-loop-place-init c =
-    added_none c.args.number (ReachedBelow c.args.view.circuit.now.arranged
+loop-place-init c = added_none c.args.number (ReachedBelow c.args.view.circuit.now.arranged
     (stuck_fault c.args.fault) c.args.view.good.now c.args.delta.now c.args.view.lanes
     c.args.pins.now.starts.items c.args.reached.now 0) c.args.counts.now c.args.row.now
     (λ i k low s. let lt = s.1 in omega (arith, lt))

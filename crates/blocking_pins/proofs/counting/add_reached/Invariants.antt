@@ -1,6 +1,5 @@
 use Rattle.flat_circuit.specs.Stuck.{stuck_fault}
-use Rattle.blocking_pins.specs.Counting.{AreAdded}
-use Rattle.blocking_pins.proofs.GroupBlocks.{ReachedBelow}
+use Rattle.blocking_pins.{specs.Counting.AreAdded, proofs.GroupBlocks.ReachedBelow}
 use Rattle.blocking_pins.proofs.counting.add_reached.Given as goal
 
 abbrev pub invariant-loop-place : goal.invariant-loop-place

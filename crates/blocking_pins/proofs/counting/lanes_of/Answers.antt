@@ -1,10 +1,8 @@
 use Rattle.std.proofs.Common.{◌≡◌, ◌<◌, ◌+◌, ◌*◌, ◌-◌, ◌∙◌, ℕ, ap, arith, length, sym, true}
-use Rattle.std.specs.Prelude.{min, nat_lt}
-use Rattle.std.specs.Bool.{Decides}
+use Rattle.std.specs.{Prelude.{min, nat_lt}, Bool.Decides}
 use Rattle.std.proofs.lemmas.Bool.{lt-ltb, ltb-true}
 use Rattle.patterns.specs.Tests.{TestList}
-use Rattle.flat_circuit.specs.Words.{lane}
-use Rattle.flat_circuit.proofs.Public.{lanes_decide}
+use Rattle.flat_circuit.{specs.Words.lane, proofs.Public.lanes_decide}
 use Rattle.blocking_pins.proofs.counting.lanes_of.Goals as goal
 
 pub returns : goal.returns

@@ -1,21 +1,18 @@
-use Rattle.std.proofs.Common.{◌≡◌, ◌<◌, ◌+◌, ◌*◌, ◌^◌, ◌∙◌, ℕ, ap, arith, length, subst, sym}
-use Rattle.std.proofs.Common.{Vec, Global, true, false}
-use Rattle.std.specs.Vec.{with_items}
-use Rattle.std.specs.Prelude.{All, Some, slice_get}
-use Rattle.std.proofs.lemmas.List.{length-map}
+use Rattle.std.proofs.Common.{◌≡◌, ◌<◌, ◌+◌, ◌*◌, ◌^◌, ◌∙◌, ℕ, ap, arith, length, subst, sym, Vec}
+use Rattle.std.{proofs.Common.{Global, true, false}, specs.Vec.with_items}
+use Rattle.std.{specs.Prelude.{All, Some, slice_get}, proofs.lemmas.List.length-map}
+use Rattle.std.proofs.lemmas.Option.{slice_get-get_or}
 use Rattle.patterns.specs.Tests.{TestList}
 use Rattle.flat_circuit.specs.BlockSpans.{groups}
-use Rattle.blocking_pins.specs.declared.tally.Tally.{Tally}
-use Rattle.std.proofs.lemmas.Option.{slice_get-get_or}
-use Rattle.list_lemmas.proofs.Places.{within_place}
-use Rattle.fault_model.specs.Fault.{FaultList}
+use Rattle.blocking_pins.specs.{declared.tally.Tally.Tally, Effects.IsFresh}
 use Rattle.blocking_pins.specs.Counting.{AreAllAdded, BlocksAtPlace, IsTallyBelow}
-use Rattle.blocking_pins.specs.Effects.{IsFresh}
 use Rattle.blocking_pins.proofs.TallySteps.{detected_more, tally_none, tally_rows, undetected_more}
 use Rattle.blocking_pins.proofs.VecRows.{rows_of, with_items_is}
-use Rattle.blocking_pins.proofs.counting.tally_of.Goals as goal
 use Rattle.blocking_pins.proofs.counting.tally_of.Goals.{then-not-detected-fault+in_ok-add_fault}
 use Rattle.blocking_pins.proofs.counting.tally_of.Goals.{else-not-detected-fault}
+use Rattle.list_lemmas.proofs.Places.{within_place}
+use Rattle.fault_model.specs.Fault.{FaultList}
+use Rattle.blocking_pins.proofs.counting.tally_of.Goals as goal
 
 pub loop-fault-init : goal.loop-fault-init
 loop-fault-init c =
@@ -86,8 +83,7 @@ loop-fault-preserved c = elim c.if-not-detected-fault.branch [
       let count = c.requires.detected.count in
       let low : fault < length c.args.detected.now = omega (arith, lt, count) in
       let flag : slice_get c.args.detected.now fault ≡ Some false =
-      slice_get-get_or c.args.detected.now fault false low
-      ∙ ap Some w.if-not-detected-fault.true in
+      slice_get-get_or c.args.detected.now fault false low ∙ ap Some w.if-not-detected-fault.true in
       let none = c.requires.detected.none fault f.0 f.1 flag in
       let B : ℕ → ℕ → ℕ → Type 0 = λ group n k.
       BlocksAtPlace job.circuit job.tests.tests f.0 pins n (128 * group + k) in

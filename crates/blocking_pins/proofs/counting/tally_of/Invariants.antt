@@ -1,6 +1,5 @@
 use Rattle.std.proofs.Common.{map}
-use Rattle.blocking_pins.specs.Counting.{IsTallyBelow}
-use Rattle.blocking_pins.specs.Effects.{IsFresh}
+use Rattle.blocking_pins.specs.{Counting.IsTallyBelow, Effects.IsFresh}
 use Rattle.blocking_pins.proofs.counting.tally_of.Given as goal
 
 abbrev pub invariant-loop-fault : goal.invariant-loop-fault

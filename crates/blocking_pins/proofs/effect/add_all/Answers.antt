@@ -1,6 +1,5 @@
 use Rattle.std.proofs.Common.{◌≡◌, ◌≢◌, ◌<◌, ◌+◌, ◌∙◌, ℕ, ap, arith, length, refl, sym, subst}
-use Rattle.std.specs.Prelude.{Contains, slice_index_or}
-use Rattle.std.proofs.lemmas.List.{length-set}
+use Rattle.std.{specs.Prelude.{Contains, slice_index_or}, proofs.lemmas.List.length-set}
 use Rattle.blocking_pins.proofs.Waiting.{AreAddedTo, added_all, added_one, added_start}
 use Rattle.blocking_pins.proofs.effect.add_all.Goals as goal
 

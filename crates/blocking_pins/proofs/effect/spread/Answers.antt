@@ -1,8 +1,6 @@
-use Rattle.std.proofs.Common.{◌≡◌, ◌≢◌, ◌<◌, ◌≤◌, ◌+◌, ◌⊎◌, ◌∙◌, ℕ, ap, arith, inl, inr}
-use Rattle.std.proofs.Common.{length, set, refl}
-use Rattle.std.proofs.Common.{List, [], ◌∷◌, ◌++◌, subst, sym}
+use Rattle.std.proofs.Common.{◌≡◌, ◌≢◌, ◌<◌, ◌≤◌, ◌+◌, ◌⊎◌, ◌∙◌, ℕ, ap, arith, inl, inr, length}
+use Rattle.std.proofs.{Common.{set, refl, List, [], ◌∷◌, ◌++◌, subst, sym}, lemmas.List.length-set}
 use Rattle.std.specs.Prelude.{All, Contains, slice_index_or}
-use Rattle.std.proofs.lemmas.List.{length-set}
 use Rattle.std.proofs.lemmas.List.Elements.{All-append}
 use Rattle.bench_net.specs.Scan.{names}
 use Rattle.event_queue.proofs.Public.{index_zero}
@@ -11,16 +9,15 @@ use Rattle.flat_circuit.specs.Stuck.{stuck_fault}
 use Rattle.blocking_pins.specs.Effects.{CanChange, IsSpreading, IsTouched, IsVisited}
 use Rattle.blocking_pins.proofs.Spreading.{spread_begin, spread_faulty, spread_nowhere}
 use Rattle.blocking_pins.proofs.Spreading.{spread_touched, start_within, visited_on}
-use Rattle.blocking_pins.proofs.effect.spread.Goals as goal
 use Rattle.blocking_pins.proofs.effect.spread.Goals.{In-Some, In-Some-take}
+use Rattle.blocking_pins.proofs.effect.spread.Goals as goal
 
 pub returns-in_default-clause-faulty : goal.returns-in_default-clause-faulty
 returns-in_default-clause-faulty c =
     spread_nowhere c.args.view.circuit.now.arranged (stuck_fault c.args.fault)
     c.args.view.good.now c.args.view.lanes c.requires.view.circuit.well_formed
     c.signals-signals.ensures.rising c.args.effect.now.overlay
-    (λ t. index_zero c.args.effect.now.overlay t c.requires.same)
-    (λ s. record {
+    (λ t. index_zero c.args.effect.now.overlay t c.requires.same) (λ s. record {
       stem = (c.in_default.ensures.none s 0).0;
       pin = λ pin. (c.in_default.ensures.none s pin).1;
     })
@@ -127,8 +124,7 @@ loop-place-preserved c =
         subst (λ x. slice_index_or (place ∷ []) x d < n) (sym first) lt
 
 pub returns-clause-faulty : goal.returns-clause-faulty
-returns-clause-faulty c =
-    spread_faulty c.args.view.circuit.now.arranged (stuck_fault c.args.fault)
+returns-clause-faulty c = spread_faulty c.args.view.circuit.now.arranged (stuck_fault c.args.fault)
     c.args.view.good.now c.args.view.lanes c.requires.view.circuit.well_formed
     c.signals-signals.ensures.rising c.loop-place.effect.overlay c.loop-place.effect.waiting
     c.loop-place.effect.reached.items c.loop-place.from c.loop-place.invariant.spreading

@@ -1,13 +1,10 @@
-use Rattle.std.proofs.Common.{◌≡◌, ◌≢◌, ◌⊎◌, ◌∙◌, ℕ, ap, arith, get_or, inl, inr}
-use Rattle.std.proofs.Common.{List, length, set, subst, sym}
+use Rattle.std.proofs.Common.{◌≡◌, ◌≢◌, ◌⊎◌, ◌∙◌, ℕ, ap, arith, get_or, inl, inr, List, length, set}
+use Rattle.std.proofs.Common.{subst, sym}
 use Rattle.std.specs.Prelude.{All, Contains, Some, map, slice_get, slice_index_or}
-use Rattle.flat_circuit.specs.Readers.{Reads}
-use Rattle.flat_circuit.specs.Stuck.{stuck_fault}
-use Rattle.flat_circuit.proofs.Public.{reader_within}
-use Rattle.blocking_pins.specs.Effects.{IsWordUnder}
-use Rattle.blocking_pins.proofs.VecRows.{all_at, row_at, rows_of}
-use Rattle.blocking_pins.proofs.effect.visit.Goals as goal
+use Rattle.flat_circuit.{specs.Readers.Reads, specs.Stuck.stuck_fault, proofs.Public.reader_within}
+use Rattle.blocking_pins.{specs.Effects.IsWordUnder, proofs.VecRows.{all_at, row_at, rows_of}}
 use Rattle.blocking_pins.proofs.effect.visit.Goals.{After-as_slice}
+use Rattle.blocking_pins.proofs.effect.visit.Goals as goal
 
 -- the readers of the signal
 own_row : (c : After-as_slice) → slice_get (rows_of c.args.readers.now) c.args.place
@@ -41,8 +38,7 @@ returns-then-diff-ne0-clause-visited c =
           let there = c.requires.readers.all r c.args.place c.index-readers-place.result.items
           (reader_within circuit r c.args.place reads) reads (own_row at) in
           all_at (λ s. slice_index_or c.add_all.new.waiting s 0 ≢ 0) c.as_slice.result.now r
-          c.add_all.ensures.all
-          (subst (λ l. Contains l r) (sym c.as_slice.ensures.value) there);
+          c.add_all.ensures.all (subst (λ l. Contains l r) (sym c.as_slice.ensures.value) there);
       only = λ r. only at c.args.effect.now.waiting c.add_all.new.waiting r
           (c.add_all.ensures.only r);
       room = c.add_all.ensures.room;
@@ -52,8 +48,7 @@ returns-then-diff-ne0-clause-visited c =
         → (slice_index_or now r 0 ≡ slice_index_or before r 0)
         ⊎ (Contains a.as_slice.result.now r × (slice_index_or now r 0 ≢ 0))
         → (slice_index_or now r 0 ≡ slice_index_or before r 0)
-        ⊎ (Reads a.args.view.circuit.now.arranged r a.args.place
-        × (slice_index_or now r 0 ≢ 0))
+        ⊎ (Reads a.args.view.circuit.now.arranged r a.args.place × (slice_index_or now r 0 ≢ 0))
     only a before now r (inl e) = inl e
     only a before now r (inr h) = inr (
       all_at (λ g. Reads a.args.view.circuit.now.arranged g a.args.place) a.as_slice.result.now r

@@ -1,6 +1,5 @@
 use Rattle.std.proofs.Common.{◌≡◌, ◌++◌, List, length}
-use Rattle.blocking_pins.specs.declared.gate_pins.GatePin.{GatePin}
-use Rattle.blocking_pins.proofs.PinLists.{ArePinsBelow}
+use Rattle.blocking_pins.{specs.declared.gate_pins.GatePin.GatePin, proofs.PinLists.ArePinsBelow}
 use Rattle.blocking_pins.proofs.gate_pins.add_pins.Given as goal
 
 abbrev pub invariant-loop-pin : goal.invariant-loop-pin

@@ -5,8 +5,7 @@ use Rattle.fault_model.specs.Fault.{FaultList}
 use Rattle.list_lemmas.proofs.Places.{place_within}
 use Rattle.patterns.specs.Tests.{TestList}
 use Rattle.flat_circuit.proofs.Public.{gate_at}
-use Rattle.blocking_pins.specs.Blocking.{IsBlockingPin}
-use Rattle.blocking_pins.specs.Effects.{AreGatePins}
+use Rattle.blocking_pins.specs.{Blocking.IsBlockingPin, Effects.AreGatePins}
 use Rattle.blocking_pins.specs.Sorted.{IsSortedBy, faults_key, tests_key}
 use Rattle.blocking_pins.proofs.PinLists.{all_pins}
 use Rattle.blocking_pins.proofs.RankedPins.{all_sorted, few_faults, few_tests, ranked}
@@ -20,8 +19,7 @@ rows_of-requires-clause-pins c =
     let starts = c.in_ok-pins.pins.starts.items in
     all_pins circuit there pins starts
     (subst (λ x. AreGatePins x there (length (names x)) pins starts) c.words-words.ensures.part
-    c.in_ok-pins.ensures)
-    (λ gate kind reads e. let own = gate_at circuit gate kind reads e in
+    c.in_ok-pins.ensures) (λ gate kind reads e. let own = gate_at circuit gate kind reads e in
     place_within (names circuit) gate own.name own.named)
 
 pub by_tests-requires : goal.by_tests-requires

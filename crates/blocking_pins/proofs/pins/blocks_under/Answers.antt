@@ -1,13 +1,9 @@
-use Rattle.std.proofs.Common.{◌≡◌, ◌<◌, ◌∙◌, ℕ, Vec, Global, ap, arith}
-use Rattle.std.proofs.Common.{get_or, length, refl, subst, sym}
-use Rattle.std.proofs.Common.{true}
-use Rattle.std.specs.Prelude.{◌/◌, ◌%◌, Some, slice_get}
-use Rattle.std.proofs.lemmas.List.{get_or_default, length-map}
-use Rattle.std.proofs.lemmas.Option.{get_or_from_slice_get}
+use Rattle.std.proofs.Common.{◌≡◌, ◌<◌, ◌∙◌, ℕ, Vec, Global, ap, arith, get_or, length, refl, subst}
+use Rattle.std.{proofs.Common.{sym, true}, specs.Prelude.{◌/◌, ◌%◌, Some, slice_get}}
+use Rattle.std.proofs.lemmas.{List.{get_or_default, length-map}, Option.get_or_from_slice_get}
 use Rattle.flat_circuit.specs.Words.{lane}
-use Rattle.blocking_pins.proofs.VecRows.{row_at, rows_of}
+use Rattle.blocking_pins.proofs.{VecRows.{row_at, rows_of}, pins.blocks_under.Goals.After-index}
 use Rattle.blocking_pins.proofs.pins.blocks_under.Goals as goal
-use Rattle.blocking_pins.proofs.pins.blocks_under.Goals.{After-index}
 
 row_within : (c : After-index) → c.args.test / 128 < length (rows_of c.args.tally.now.rows.items)
 row_within c =
@@ -20,8 +16,7 @@ row_is c = row_at c.args.tally.now.rows.items (length (rows_of c.args.tally.now.
     (c.args.test / 128) c.index.result.now refl (row_within c) c.index.ensures
 
 at_within : (c : After-index) → c.args.at < length c.index.result.now.items
-at_within c =
-    subst (λ l. c.args.at < length l)
+at_within c = subst (λ l. c.args.at < length l)
     (get_or_from_slice_get (rows_of c.args.tally.now.rows.items) (c.args.test / 128)
     c.index.result.now.items c.index.result.now.items (row_is c))
     (c.requires.at (c.args.test / 128) c.index.result.now.items (row_within c))

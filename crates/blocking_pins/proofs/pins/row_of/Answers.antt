@@ -1,8 +1,6 @@
 use Rattle.std.proofs.Common.{◌≡◌, ◌<◌, ◌∙◌, ℕ, List, ap, arith, get_or, length, sym}
-use Rattle.std.specs.Prelude.{Option, Some, unwrap_or}
-use Rattle.bench_net.specs.declared.Kind.{Kind}
-use Rattle.std.proofs.lemmas.Option.{slice_get-get_or}
-use Rattle.bench_net.specs.Scan.{names}
+use Rattle.std.{specs.Prelude.{Option, Some, unwrap_or}, proofs.lemmas.Option.slice_get-get_or}
+use Rattle.bench_net.specs.{declared.Kind.Kind, Scan.names}
 use Rattle.list_lemmas.proofs.Places.{place_within}
 use Rattle.flat_circuit.proofs.Public.{gate_at}
 use Rattle.blocking_pins.proofs.pins.row_of.Goals as goal
@@ -15,8 +13,7 @@ gate_of-requires c =
 pub returns-clause-read : goal.returns-clause-read
 returns-clause-read c = λ kind reads e.
     let own : c.requires.1 ≡ reads =
-    ap (λ (o : Option (Kind × List ℕ)). (unwrap_or o (kind, reads)).1)
-    (sym c.requires.2 ∙ e) in
+    ap (λ (o : Option (Kind × List ℕ)). (unwrap_or o (kind, reads)).1) (sym c.requires.2 ∙ e) in
     let long = ap length own in
     let low = c.requires.3 in
     let lt : c.args.pin.pin < length reads = omega (arith, low, long) in

@@ -1,24 +1,17 @@
 use Rattle.std.proofs.Common.{◌≡◌, ◌<◌, ◌+◌, ◌++◌, ◌∷◌, [], ◌∙◌, ap, arith, get_or, length, subst}
-use Rattle.std.proofs.Common.{Vec, Global, refl, sym}
-use Rattle.std.specs.Prelude.{All, Some, slice_get}
-use Rattle.std.proofs.lemmas.Option.{get_or_from_slice_get, slice_get-get_or}
-use Rattle.std.proofs.lemmas.Option.{slice_get_read}
+use Rattle.std.{proofs.Common.{Vec, Global, refl, sym}, specs.Prelude.{All, Some, slice_get}}
+use Rattle.std.proofs.lemmas.Option.{get_or_from_slice_get, slice_get-get_or, slice_get_read}
 use Rattle.bench_net.specs.Scan.{gate_of}
 use Rattle.list_lemmas.proofs.Places.{place_within}
 use Rattle.patterns.specs.Tests.{TestList}
-use Rattle.blocking_pins.specs.declared.pins.BlockingPin.{BlockingPin}
-use Rattle.blocking_pins.specs.Blocking.{HaveCount}
-use Rattle.blocking_pins.specs.Counting.{HasBit}
-use Rattle.blocking_pins.specs.declared.gate_pins.GatePin.{GatePin}
-use Rattle.blocking_pins.specs.declared.tally.PinCount.{PinCount}
-use Rattle.blocking_pins.specs.Effects.{IsGatePin}
-use Rattle.blocking_pins.proofs.PinRows.{AreListedBelow, IsRowOf, blocks_driven}
-use Rattle.blocking_pins.proofs.PinRows.{listed_all, listed_more}
-use Rattle.blocking_pins.proofs.PinRows.{listed_none, listed_same, no_row, pin_row}
-use Rattle.blocking_pins.proofs.VecRows.{rows_of}
+use Rattle.blocking_pins.specs.{declared.pins.BlockingPin.BlockingPin, Blocking.HaveCount}
+use Rattle.blocking_pins.specs.{Counting.HasBit, declared.gate_pins.GatePin.GatePin}
+use Rattle.blocking_pins.specs.{declared.tally.PinCount.PinCount, Effects.IsGatePin}
+use Rattle.blocking_pins.proofs.PinRows.{AreListedBelow, IsRowOf, blocks_driven, listed_all}
+use Rattle.blocking_pins.proofs.PinRows.{listed_more, listed_none, listed_same, no_row, pin_row}
+use Rattle.blocking_pins.proofs.{VecRows.rows_of, pins.rows_of.Goals.else-faults-gt0}
+use Rattle.blocking_pins.proofs.pins.rows_of.Goals.{Joined-faults-gt0, then-faults-gt0+in_ok-push}
 use Rattle.blocking_pins.proofs.pins.rows_of.Goals as goal
-use Rattle.blocking_pins.proofs.pins.rows_of.Goals.{Joined-faults-gt0}
-use Rattle.blocking_pins.proofs.pins.rows_of.Goals.{then-faults-gt0+in_ok-push, else-faults-gt0}
 
 pub row_of-requires : goal.row_of-requires
 row_of-requires c =
@@ -31,8 +24,7 @@ row_of-requires c =
 -- the pin at the place, and its numbers
 pin_at : (c : Joined-faults-gt0) → slice_get c.args.pins.now.pins.items c.loop-at.at
     ≡ Some (get_or c.deref-pin-items.result.now c.loop-at.at (record { gate = 0; pin = 0 }))
-pin_at c =
-    subst (λ l. slice_get l c.loop-at.at ≡ Some (get_or c.deref-pin-items.result.now
+pin_at c = subst (λ l. slice_get l c.loop-at.at ≡ Some (get_or c.deref-pin-items.result.now
     c.loop-at.at (record { gate = 0; pin = 0 }))) c.deref-pin-items.ensures.value
     (slice_get-get_or c.deref-pin-items.result.now c.loop-at.at (record { gate = 0; pin = 0 })
     c.loop-at-test.true)

@@ -1,10 +1,7 @@
 use Rattle.std.proofs.Common.{◌≡◌, ◌≤◌, ◌+◌, Bool, arith, false, subst, sym, true}
 use Rattle.std.specs.Prelude.{if◌then◌else◌}
-use Rattle.blocking_pins.specs.Blocking.{HaveCount}
-use Rattle.blocking_pins.specs.Blocking.HaveCount.{none}
-use Rattle.blocking_pins.specs.Counting.{HasBit}
-use Rattle.blocking_pins.proofs.Counts.{count_next}
-use Rattle.blocking_pins.proofs.VecRows.{rows_of}
+use Rattle.blocking_pins.specs.{Blocking.HaveCount, Blocking.HaveCount.none, Counting.HasBit}
+use Rattle.blocking_pins.proofs.{Counts.count_next, VecRows.rows_of}
 use Rattle.blocking_pins.proofs.pins.tests_of.Goals as goal
 
 pub loop-test-init : goal.loop-test-init

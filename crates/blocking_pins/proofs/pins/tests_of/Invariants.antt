@@ -1,6 +1,5 @@
 use Rattle.std.proofs.Common.{◌≤◌, map}
-use Rattle.blocking_pins.specs.Blocking.{HaveCount}
-use Rattle.blocking_pins.specs.Counting.{HasBit}
+use Rattle.blocking_pins.specs.{Blocking.HaveCount, Counting.HasBit}
 use Rattle.blocking_pins.proofs.pins.tests_of.Given as goal
 
 abbrev pub invariant-loop-test : goal.invariant-loop-test

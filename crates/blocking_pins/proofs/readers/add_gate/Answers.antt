@@ -1,9 +1,6 @@
-use Rattle.std.proofs.Common.{◌≡◌, ◌<◌, ◌∙◌, ◌++◌, ◌∷◌, [], ap, arith, get_or, length}
-use Rattle.std.proofs.Common.{◌+◌, set, subst, sym}
-use Rattle.std.specs.Prelude.{slice_index_or}
-use Rattle.std.proofs.Common.{ℕ, Vec, Global}
-use Rattle.std.proofs.lemmas.List.{length-map}
-use Rattle.std.proofs.lemmas.Option.{slice_get-get_or}
+use Rattle.std.proofs.Common.{◌≡◌, ◌<◌, ◌∙◌, ◌++◌, ◌∷◌, [], ap, arith, get_or, length, ◌+◌, set}
+use Rattle.std.{proofs.Common.{subst, sym, ℕ, Vec, Global}, specs.Prelude.slice_index_or}
+use Rattle.std.proofs.lemmas.{List.length-map, Option.slice_get-get_or}
 use Rattle.bench_net.specs.Scan.{names}
 use Rattle.flat_circuit.proofs.Public.{pins_few, pins_within}
 use Rattle.blocking_pins.proofs.SignalReaders.{HaveReadersIn, readers_all, readers_begin}
@@ -18,8 +15,7 @@ offset_bounds-read-items-read-index c =
     omega (arith, few, c.loop-read-test.true)
 
 pub loop-read-init : goal.loop-read-init
-loop-read-init c =
-    readers_begin c.args.circuit.now.arranged c.args.place c.in-Some.gate.kind
+loop-read-init c = readers_begin c.args.circuit.now.arranged c.args.place c.in-Some.gate.kind
     c.in-Some.gate.pins.now c.signals-signals.ensures.circuit.well_formed
     (sym c.in-Some.ensures.gate) (rows_of c.args.readers.now) c.requires.readers
 
@@ -39,8 +35,7 @@ loop-read-preserved c =
     let more = readers_more circuit c.args.place c.in-Some.gate.kind pins well is i read
     (rows_of c.loop-read.readers) old.items
     (slice_get-get_or pins i 0 c.loop-read-test.true) there c.loop-read.invariant in
-    let pushed : c.push.new.self.items ≡ old.items ++ c.args.place ∷ [] =
-    c.in_ok-push.ensures.items
+    let pushed : c.push.new.self.items ≡ old.items ++ c.args.place ∷ [] = c.in_ok-push.ensures.items
     ∙ ap (λ v. v.items ++ c.args.place ∷ []) (sym c.index-readers-read.is) in
     subst (HaveReadersIn circuit c.args.place pins (i + 1))
     (sym (rows_set c.loop-read.readers read c.push.new.self
@@ -57,8 +52,7 @@ bounds-readers-read c =
     omega (arith, within, count, long)
 
 pub returns-after-loop-read : goal.returns-after-loop-read
-returns-after-loop-read c =
-    readers_all c.args.circuit.now.arranged c.args.place c.in-Some.gate.kind
+returns-after-loop-read c = readers_all c.args.circuit.now.arranged c.args.place c.in-Some.gate.kind
     c.in-Some.gate.pins.now c.signals-signals.ensures.circuit.well_formed
     (sym c.in-Some.ensures.gate) c.loop-read.read-index (rows_of c.loop-read.readers)
     c.loop-read-test.false c.loop-read.invariant
@@ -66,5 +60,4 @@ returns-after-loop-read c =
 pub returns-in_default : goal.returns-in_default
 returns-in_default c =
     readers_source c.args.circuit.now.arranged c.args.place (rows_of c.args.readers.now)
-    c.signals-signals.ensures.circuit.well_formed (sym c.in_default.ensures.gate)
-    c.requires.readers
+    c.signals-signals.ensures.circuit.well_formed (sym c.in_default.ensures.gate) c.requires.readers

@@ -1,11 +1,7 @@
-use Rattle.std.proofs.Common.{◌≡◌, ◌∙◌, ℕ, List, [], ◌∷◌, ◌++◌, ap, arith}
-use Rattle.std.proofs.Common.{length, map, refl, subst, sym}
-use Rattle.std.proofs.Common.{Vec, Global}
-use Rattle.std.specs.Prelude.{All}
-use Rattle.std.proofs.lemmas.List.{length-append, length-map}
-use Rattle.std.proofs.lemmas.List.Elements.{All-nil}
-use Rattle.blocking_pins.proofs.VecRows.{all_pushed, rows_of}
-use Rattle.blocking_pins.proofs.SignalReaders.{readers_none}
+use Rattle.std.proofs.Common.{◌≡◌, ◌∙◌, ℕ, List, [], ◌∷◌, ◌++◌, ap, arith, length, map, refl, subst}
+use Rattle.std.{proofs.Common.{sym, Vec, Global}, specs.Prelude.All}
+use Rattle.std.proofs.lemmas.List.{length-append, length-map, Elements.All-nil}
+use Rattle.blocking_pins.proofs.{VecRows.{all_pushed, rows_of}, SignalReaders.readers_none}
 use Rattle.blocking_pins.proofs.readers.no_readers.Goals as goal
 
 pub loop-place-init : goal.loop-place-init
@@ -31,8 +27,7 @@ loop-place-preserved c =
 pub returns : goal.returns
 returns c =
     let long = length-map c.loop-place.readers.items (λ (row : Vec ℕ Global). row.items) in
-    readers_none c.args.circuit.now.arranged (rows_of c.loop-place.readers.items)
-    (omega (
+    readers_none c.args.circuit.now.arranged (rows_of c.loop-place.readers.items) (omega (
       arith,
       long,
       c.loop-place.invariant.count,

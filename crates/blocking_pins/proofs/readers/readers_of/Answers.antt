@@ -1,7 +1,6 @@
 use Rattle.std.proofs.Common.{◌≡◌, arith, length, subst}
 use Rattle.bench_net.specs.Scan.{names}
-use Rattle.blocking_pins.specs.Effects.{HaveReadersBelow}
-use Rattle.blocking_pins.proofs.VecRows.{rows_of}
+use Rattle.blocking_pins.{specs.Effects.HaveReadersBelow, proofs.VecRows.rows_of}
 use Rattle.blocking_pins.proofs.readers.readers_of.Goals as goal
 
 pub returns : goal.returns

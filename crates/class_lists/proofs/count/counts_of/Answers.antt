@@ -1,8 +1,6 @@
-use Rattle.std.proofs.Common.{◌∙◌, ap, arith, map, min, subst, sym}
-use Rattle.std.specs.Prelude.{nat_lt}
+use Rattle.std.{proofs.Common.{◌∙◌, ap, arith, map, min, subst, sym}, specs.Prelude.nat_lt}
 use Rattle.region_runs.specs.Tasks.{AreKept, task_of}
-use Rattle.n_detect.specs.HitCounts.{IsHitCount, one_of}
-use Rattle.n_detect.proofs.Public.{ones_kept}
+use Rattle.n_detect.{specs.HitCounts.{IsHitCount, one_of}, proofs.Public.ones_kept}
 use Rattle.class_lists.proofs.count.counts_of.Goals as goal
 
 pub returns-then-most-lt2-clause-counts : goal.returns-then-most-lt2-clause-counts

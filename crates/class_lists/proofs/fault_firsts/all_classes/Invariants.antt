@@ -1,5 +1,4 @@
-use Rattle.std.proofs.Common.{◌≡◌, ℕ}
-use Rattle.std.specs.Prelude.{Some, slice_get, vec_len}
+use Rattle.std.{proofs.Common.{◌≡◌, ℕ}, specs.Prelude.{Some, slice_get, vec_len}}
 use Rattle.class_lists.proofs.fault_firsts.all_classes.Given as goal
 
 abbrev pub invariant-loop-class : goal.invariant-loop-class

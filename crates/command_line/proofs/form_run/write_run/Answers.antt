@@ -21,16 +21,14 @@ returns-in-Ok-clause-written g c =
     let same : NeedsSums form → b ≡ sum_text bench =
     λ needs. c.words_of-words.ensures.bench ∙ own (needed needs) in
     written_as (IsFormOfJob job b t form) (IsFormForSome c.args.inputs.model bench form)
-    c.write_form_of_run-done.result _ _
-    (λ bytes of_job. (
+    c.write_form_of_run-done.result _ _ (λ bytes of_job. (
       job,
       t,
       circuit,
       model,
       together,
       same_form job b t (sum_text bench) t form bytes same (λ _. refl) of_job,
-    ))
-    c.write_form_of_run-done.ensures
+    )) c.write_form_of_run-done.ensures
 
 pub returns-in-Ok-clause-files : goal.returns-in-Ok-clause-files
 returns-in-Ok-clause-files g c =
@@ -45,8 +43,7 @@ returns-in-Ok-clause-files g c =
     let tests = rw (c.in-Ok.is) at c.in_ok-made.ensures.tests in
     let same : NeedsSums form → b ≡ sum_text bench =
     λ needs. c.words_of-words.ensures.bench ∙ own (needed needs) in
-    let other =
-    needed_tests text form c.in-Ok.summed t (tests_of c.in-Ok.summed) tests
+    let other = needed_tests text form c.in-Ok.summed t (tests_of c.in-Ok.summed) tests
     c.words_of-words.ensures.tests needed in
     written_form c.args.inputs.model bench b t text form c.in-Ok.made.whole
     c.write_form_of_run-done.result _ _ read same other c.write_form_of_run-done.ensures

@@ -11,6 +11,5 @@ returns-clause-marks g c =
     let count = c.count.ensures ∙ ap (λ t. length t.tests) (c.tests.ensures.tests
     ∙ ap (λ (p : Parts). p.tests) same) in
     are_finding job.list.model job.circuit job.tests.tests c.in_ok-marks_of.field-0.items
-    c.in_ok-verdicts.verdicts.firsts c.in_ok-verdicts.ensures.firsts
-    (c.in_ok-marks_of.ensures.count
+    c.in_ok-verdicts.verdicts.firsts c.in_ok-verdicts.ensures.firsts (c.in_ok-marks_of.ensures.count
     ∙ count) (λ t lt. c.in_ok-marks_of.ensures.each t (omega (arith, lt, count)))

@@ -1,5 +1,4 @@
-use Rattle.std.proofs.Common.{◌≡◌, ◌<◌, ◌≤◌, ◌+◌, ℕ, false, get_or}
-use Rattle.std.specs.Prelude.{◌||◌}
+use Rattle.std.{proofs.Common.{◌≡◌, ◌<◌, ◌≤◌, ◌+◌, ℕ, false, get_or}, specs.Prelude.◌||◌}
 use Rattle.compaction.proofs.finding.mark_before.Given as goal
 
 abbrev pub invariant-loop-place : goal.invariant-loop-place

@@ -1,7 +1,6 @@
 use Rattle.std.proofs.Common.{◌≡◌, ◌<◌, ◌∙◌, ap, arith, false, get_or, length, sym}
 use Rattle.std.specs.Prelude.{◌||◌}
-use Rattle.compaction.specs.Compaction.{is_first}
-use Rattle.compaction.proofs.KeptTests.{finds_more}
+use Rattle.compaction.{specs.Compaction.is_first, proofs.KeptTests.finds_more}
 use Rattle.compaction.proofs.PushedElements.{written_over}
 use Rattle.compaction.proofs.finding.marks_of.Goals as goal
 

@@ -1,5 +1,4 @@
-use Rattle.std.specs.Prelude.{None, slice_index}
-use Rattle.std.proofs.lemmas.Option.{slice_get-get_or}
+use Rattle.std.{specs.Prelude.{None, slice_index}, proofs.lemmas.Option.slice_get-get_or}
 use Rattle.compaction.proofs.lasting.last_of.Goals as goal
 
 pub returns : goal.returns

@@ -1,8 +1,7 @@
 use Rattle.std.proofs.Common.{ap, subst, sym}
 use Rattle.block_sim.specs.Parts.{Parts}
 use Rattle.region_runs.specs.RunJobs.{RunView}
-use Rattle.compaction.specs.Marks.{AreLastAt, AreLasting}
-use Rattle.compaction.proofs.LastTests.{lasts_at}
+use Rattle.compaction.{specs.Marks.{AreLastAt, AreLasting}, proofs.LastTests.lasts_at}
 use Rattle.compaction.proofs.lasting.lasting_tests.Goals as goal
 
 pub marks_of_last-requires : goal.marks_of_last-requires
@@ -11,8 +10,7 @@ marks_of_last-requires g c =
     let done = c.in_ok-done.done in
     let same = ap (λ (r : RunView). r.whole) c.in_ok-done.ensures.same in
     subst (λ (p : Parts). AreLastAt p c.as_slice-positions.result.now c.as_slice.result.now)
-    (sym same)
-    (subst (AreLastAt job c.as_slice-positions.result.now) (sym c.as_slice.ensures.value)
+    (sym same) (subst (AreLastAt job c.as_slice-positions.result.now) (sym c.as_slice.ensures.value)
     (subst (λ l. AreLastAt job l done.kept.items) (sym c.as_slice-positions.ensures.value)
     (lasts_at job done.classes.items done.positions.items done.kept.items
     c.tests-tests.ensures.together c.in_ok-done.ensures.positions c.in_ok-done.ensures.count

@@ -1,8 +1,7 @@
 use Rattle.std.proofs.Common.{◌≡◌, ◌≤◌, ◌∙◌, ap, arith, false, get_or, length, sym}
 use Rattle.std.specs.Prelude.{◌||◌}
 use Rattle.fault_model.specs.Collapse.{Collapsed}
-use Rattle.compaction.specs.Compaction.{is_first}
-use Rattle.compaction.proofs.LastTests.{marks_lasting, marks_more}
+use Rattle.compaction.{specs.Compaction.is_first, proofs.LastTests.{marks_lasting, marks_more}}
 use Rattle.compaction.proofs.PushedElements.{written_over}
 use Rattle.compaction.proofs.lasting.marks_of_last.Goals as goal
 
@@ -14,8 +13,7 @@ loop-class-preserved c =
     let was = c.deref_mut.ensures.value in
     let len : old.len ≡ length new = sym (c.mark_test.auto.marks ∙ c.deref_mut.ensures.len) in
     rw (written_over old.len new _ len) (marks_more c.args.run.now.whole c.loop-class.class
-    old.items new
-    last c.loop-class.invariant
+    old.items new last c.loop-class.invariant
     c.last_of-last.ensures (c.mark_test.ensures.count ∙ ap length was)
     (λ t lt. c.mark_test.ensures.each t (omega (arith, lt, ap length was))
     ∙ ap (λ xs. get_or xs t false || is_first t last) was))

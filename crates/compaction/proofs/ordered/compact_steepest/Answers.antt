@@ -1,19 +1,16 @@
 use Rattle.std.proofs.Common.{◌≡◌, ◌∙◌, [], ap, arith, get_or, length, subst, sym}
 use Rattle.std.specs.Prelude.{◌≢◌}
 use Rattle.bench_net.specs.Scan.{sources}
-use Rattle.fault_model.specs.Collapse.{representatives}
-use Rattle.fault_model.specs.declared.Model.TheVariants.{Transition}
+use Rattle.fault_model.specs.{Collapse.representatives, declared.Model.TheVariants.Transition}
 use Rattle.block_sim.specs.Parts.{Parts, with_tests}
-use Rattle.compaction.specs.Compaction.{IsNumbered}
-use Rattle.compaction.specs.Detections.{detects_by}
+use Rattle.compaction.specs.{Compaction.IsNumbered, Detections.detects_by}
 use Rattle.compaction.specs.Steepest.{IsSteepestCompaction, at_places, with_launches}
 use Rattle.compaction.proofs.OrderedTests.{few_places, numbered_all, places_within}
 use Rattle.compaction.proofs.OrderedTests.{steepest_compaction, steepest_of}
 use Rattle.compaction.proofs.ordered.compact_steepest.Goals as goal
 
 pub set_own_tests-requires-clause-width : goal.set_own_tests-requires-clause-width
-set_own_tests-requires-clause-width g c = c.in_ok-tests.ensures.width
-    ∙ (c.requires.job.width
+set_own_tests-requires-clause-width g c = c.in_ok-tests.ensures.width ∙ (c.requires.job.width
     ∙ ap (λ (p : Parts). length (sources p.circuit)) (sym c.in_ok-tests.ensures.job))
 
 pub kept_at-requires-clause-places : goal.kept_at-requires-clause-places
@@ -62,19 +59,14 @@ kept_at-requires-clause-numbers g c =
     let kept = c.in_ok-tests.field-0 in
     ap length c.deref-2.ensures.value
     ∙ (numbered_all old.list.model old.circuit old.tests.tests kept.tests.tests kept.numbers.items
-    c.in_ok-tests.ensures.compacted
-    ∙ (ap (λ (p : Parts). length p.tests.tests)
+    c.in_ok-tests.ensures.compacted ∙ (ap (λ (p : Parts). length p.tests.tests)
     (sym (c.job-job.ensures.own c.in_ok-set_own_tests.ensures.own
-    ∙ c.in_ok-set_own_tests.ensures.tests))
-    ∙ sym (ap (λ t. length t.tests) c.tests.ensures.part)))
+    ∙ c.in_ok-set_own_tests.ensures.tests)) ∙ sym (ap (λ t. length t.tests) c.tests.ensures.part)))
 
 pub returns-clause-width : goal.returns-clause-width
-returns-clause-width g c =
-    c.in_ok-kept_at.ensures.width
-    ∙ (ap (λ t. t.width) c.tests.ensures.part
+returns-clause-width g c = c.in_ok-kept_at.ensures.width ∙ (ap (λ t. t.width) c.tests.ensures.part
     ∙ (ap (λ (p : Parts). p.tests.width) (c.job-job.ensures.own c.in_ok-set_own_tests.ensures.own
-    ∙ c.in_ok-set_own_tests.ensures.tests)
-    ∙ c.in_ok-tests.ensures.width))
+    ∙ c.in_ok-set_own_tests.ensures.tests) ∙ c.in_ok-tests.ensures.width))
 
 pub returns-clause-compacted : goal.returns-clause-compacted
 returns-clause-compacted g c =
@@ -85,8 +77,7 @@ returns-clause-compacted g c =
     let table = c.in_ok-detections.detections in
     let order = c.in_ok-order.order.items in
     let whole : job ≡ with_tests old given.tests =
-    c.job-job.ensures.own c.in_ok-set_own_tests.ensures.own
-    ∙ (c.in_ok-set_own_tests.ensures.tests
+    c.job-job.ensures.own c.in_ok-set_own_tests.ensures.own ∙ (c.in_ok-set_own_tests.ensures.tests
     ∙ ap (λ p. with_tests p given.tests) c.in_ok-tests.ensures.job) in
     let model : c.model.result ≡ job.list.model = c.model.ensures
     ∙ ap (λ l. l.model) c.faults.ensures.part in

@@ -1,5 +1,4 @@
-use Rattle.std.proofs.Common.{◌≡◌, ◌-◌, ◌∷◌, [], take}
-use Rattle.std.specs.Prelude.{flat_map}
+use Rattle.std.{proofs.Common.{◌≡◌, ◌-◌, ◌∷◌, [], take}, specs.Prelude.flat_map}
 use Rattle.compaction.proofs.ordered.pairs_of.Given as goal
 
 abbrev pub invariant-loop-test : goal.invariant-loop-test

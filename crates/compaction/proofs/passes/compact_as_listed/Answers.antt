@@ -1,17 +1,12 @@
-use Rattle.std.proofs.Common.{◌≡◌, ◌⊎◌, ◌+◌, ◌∙◌, ap, arith, false, get_or, length, rules}
-use Rattle.std.proofs.Common.{subst, sym}
-use Rattle.std.specs.Prelude.{◌||◌}
+use Rattle.std.proofs.Common.{◌≡◌, ◌⊎◌, ◌+◌, ◌∙◌, ap, arith, false, get_or, length, rules, subst}
+use Rattle.std.{proofs.Common.sym, specs.Prelude.{◌||◌, IfOk}}
 use Rattle.fault_model.specs.declared.Model.TheVariants.{StuckAt, Transition, TransitionPairs}
-use Rattle.patterns.specs.Least.{below}
-use Rattle.patterns.proofs.Public.{length-below}
-use Rattle.std.specs.Prelude.{IfOk}
-use Rattle.patterns.specs.Tests.{TestList}
+use Rattle.patterns.{specs.Least.below, proofs.Public.length-below, specs.Tests.TestList}
 use Rattle.block_sim.specs.Parts.{Parts}
 use Rattle.region_runs.specs.RunJobs.{RunView}
-use Rattle.compaction.specs.Compaction.{IsNumbered, at_marks}
+use Rattle.compaction.{specs.Compaction.{IsNumbered, at_marks}, proofs.PushedElements.written_over}
 use Rattle.compaction.specs.Marks.{AreLastOf, AreLastPairsOf, AreWithBefore}
 use Rattle.compaction.proofs.KeptTests.{ok_as, pairs_numbered, stuck_numbered}
-use Rattle.compaction.proofs.PushedElements.{written_over}
 use Rattle.compaction.proofs.ElementsAtMarks.{as_many_marked, marked_few}
 use Rattle.compaction.proofs.passes.compact_as_listed.Goals as goal
 
@@ -21,8 +16,7 @@ tests_of : {tests : TestList} {job other : Parts} → tests ≡ job.tests → jo
 tests_of a same = a ∙ ap (λ (p : Parts). p.tests) same
 
 pub kept_tests-requires-clause-numbers : goal.kept_tests-requires-clause-numbers
-kept_tests-requires-clause-numbers g c =
-    ap length (c.deref.ensures.value ∙ c.in_ok-numbers.ensures)
+kept_tests-requires-clause-numbers g c = ap length (c.deref.ensures.value ∙ c.in_ok-numbers.ensures)
     ∙ (length-below c.count.result ∙ (c.count.ensures
     ∙ ap (λ t. length t.tests) (c.tests.ensures.tests ∙ sym c.tests-in-StuckAt.ensures.tests)))
 
@@ -108,8 +102,7 @@ returns-clause-compacted g c =
     let new = c.mark_before.new.marks in
     let kept = c.in_ok-kept-in-Transition.kept in
     let model : job.list.model ≡ c.model.result = sym (ap (λ l. l.model) (c.faults.ensures.part
-    ∙ (c.job.ensures.list ∙ ap (λ (p : Parts). p.list) same)))
-    ∙ sym c.model.ensures in
+    ∙ (c.job.ensures.list ∙ ap (λ (p : Parts). p.list) same))) ∙ sym c.model.ensures in
     let len : c.in_ok-found.found.len ≡ length new =
     sym (c.mark_before.auto.marks ∙ c.deref_mut.ensures.len) in
     let count : length new ≡ length found = c.mark_before.ensures.count

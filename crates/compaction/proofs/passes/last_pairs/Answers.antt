@@ -2,8 +2,7 @@ use Rattle.std.proofs.Common.{◌≡◌, ◌+◌, ◌∙◌, ap, arith, false, g
 use Rattle.std.specs.Prelude.{◌||◌}
 use Rattle.block_sim.specs.Parts.{Parts}
 use Rattle.region_runs.specs.RunJobs.{RunView}
-use Rattle.compaction.specs.Compaction.{at_marks}
-use Rattle.compaction.specs.Marks.{AreLasting, AreWithBefore}
+use Rattle.compaction.specs.{Compaction.at_marks, Marks.{AreLasting, AreWithBefore}}
 use Rattle.compaction.proofs.PushedElements.{written_over}
 use Rattle.compaction.proofs.passes.last_pairs.Goals as goal
 

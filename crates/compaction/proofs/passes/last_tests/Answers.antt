@@ -1,9 +1,7 @@
 use Rattle.std.proofs.Common.{◌≡◌, ◌∙◌, ap, arith, get_or, length, subst, sym}
-use Rattle.std.specs.Prelude.{vec_len}
-use Rattle.std.specs.List.{ReversedBelow}
+use Rattle.std.specs.{Prelude.vec_len, List.ReversedBelow}
 use Rattle.fault_model.specs.declared.Model.TheVariants.{StuckAt}
-use Rattle.compaction.specs.Compaction.{at_marks}
-use Rattle.compaction.specs.Marks.{AreFinding, AreLastOf}
+use Rattle.compaction.specs.{Compaction.at_marks, Marks.{AreFinding, AreLastOf}}
 use Rattle.compaction.proofs.KeptTests.{are_last}
 use Rattle.compaction.proofs.passes.last_tests.Goals as goal
 
@@ -30,11 +28,9 @@ returns-clause-last g c =
     let long : length marks ≡ length tests =
     omega (arith, len, c.deref-2.ensures.len, c.reverse.ensures.len) in
     let back : ReversedBelow found marks (length tests) =
-    λ k d lt. ap (λ xs. get_or xs k d) c.deref-2.ensures.value
-    ∙ subst (λ n.
+    λ k d lt. ap (λ xs. get_or xs k d) c.deref-2.ensures.value ∙ subst (λ n.
     ReversedBelow found c.reverse.new.self.items n) len c.reverse.ensures.by_index k d lt in
-    let numbered = c.in_ok-kept_tests.ensures.numbers
-    ∙ ap (at_marks marks) c.deref.ensures.value in
+    let numbered = c.in_ok-kept_tests.ensures.numbers ∙ ap (at_marks marks) c.deref.ensures.value in
     subst (λ rows. AreLastOf job.circuit tests rows given kept.numbers.items)
     (sym c.in_ok-kept_tests.ensures.rows)
     (are_last job.circuit tests reversed found marks c.in_ok-reversed.ensures.count

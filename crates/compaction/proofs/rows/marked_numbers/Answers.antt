@@ -12,8 +12,7 @@ loop-place-preserved c =
     let in_marks : t < length marks = omega (arith, c.loop-place-test.true) in
     let within : t < length numbers = omega (arith, in_marks, c.requires) in
     elim c.if-marks-place.branch [
-      | then-marks-place+in_ok-push w ↦ ap (λ v. v.items) w.kept-is
-          ∙ (w.in_ok-push.ensures.items
+      | then-marks-place+in_ok-push w ↦ ap (λ v. v.items) w.kept-is ∙ (w.in_ok-push.ensures.items
           ∙ (ap (λ xs. xs ++ get_or numbers t 0 ∷ []) c.loop-place.invariant
           ∙ sym (marked_one marks numbers t 0 in_marks within w.if-marks-place.true)))
       | else-marks-place w ↦ ap (λ v. v.items) w.kept-is ∙ (c.loop-place.invariant

@@ -1,5 +1,4 @@
-use Rattle.std.proofs.Common.{◌≡◌, ◌<◌, ℕ, get_or}
-use Rattle.std.specs.Prelude.{Bool}
+use Rattle.std.{proofs.Common.{◌≡◌, ◌<◌, ℕ, get_or}, specs.Prelude.Bool}
 use Rattle.patterns.specs.Tests.{bit}
 use Rattle.compaction.proofs.rows.read_test.Given as goal
 

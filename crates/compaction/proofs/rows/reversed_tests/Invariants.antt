@@ -1,5 +1,4 @@
-use Rattle.std.proofs.Common.{◌≡◌, ◌<◌, ◌-◌, ℕ, length, get_or}
-use Rattle.std.specs.Prelude.{Bool, List}
+use Rattle.std.{proofs.Common.{◌≡◌, ◌<◌, ◌-◌, ℕ, length, get_or}, specs.Prelude.{Bool, List}}
 use Rattle.patterns.specs.Tests.{IsTestList}
 use Rattle.compaction.proofs.rows.reversed_tests.Given as goal
 

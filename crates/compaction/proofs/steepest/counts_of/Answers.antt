@@ -1,12 +1,10 @@
-use Rattle.std.specs.declared.vec.Vec.{Vec}
-use Rattle.std.proofs.Common.{List, ◌∷◌, ◌≡◌, ◌<◌, ◌+◌, ◌/◌, ◌%◌, ◌≤◌, ◌∙◌, [], ℕ, ap, arith, get_or, length, map, subst, sym, take}
-use Rattle.std.proofs.Common.{Bool, true, false, refl}
-use Rattle.std.specs.Prelude.{◌^◌}
+use Rattle.std.specs.{declared.vec.Vec.Vec, Prelude.◌^◌}
+use Rattle.std.proofs.Common.{List, ◌∷◌, ◌≡◌, ◌<◌, ◌+◌, ◌/◌, ◌%◌, ◌≤◌, ◌∙◌, [], ℕ, ap, arith}
+use Rattle.std.proofs.Common.{get_or, length, map, subst, sym, take, Bool, true, false, refl}
 use Rattle.std.proofs.lemmas.List.{length-map, length-take-le}
 use Rattle.patterns.specs.Tests.{as_number}
 use Rattle.flat_circuit.specs.Words.{lane}
-use Rattle.compaction.specs.Detections.{detects_by}
-use Rattle.compaction.specs.Tallies.{number_in}
+use Rattle.compaction.specs.{Detections.detects_by, Tallies.number_in}
 use Rattle.compaction.proofs.PushedElements.{written_over}
 use Rattle.compaction.proofs.TallyDigits.{tallied_more, tallied_none, tallied_room}
 use Rattle.compaction.proofs.steepest.counts_of.Goals as goal
@@ -35,7 +33,12 @@ add_words-requires-clause-room c = λ group k lt low.
     let long = length-take-le c.loop-class.class-index c.args.classes.now
     (omega (arith, c.loop-class-test.true)) in
     let within : group < length rows =
-    omega (arith, lt, ap length value, length-map c.loop-class.groups.items (λ words. words.items)) in
+    omega (
+      arith,
+      lt,
+      ap length value,
+      length-map c.loop-class.groups.items (λ words. words.items),
+    ) in
     let few : length (take c.loop-class.class-index c.args.classes.now) + 1
     < 2 ^ c.digits_of-digits.result =
     omega (arith, long, c.loop-class-test.true, c.digits_of-digits.ensures.enough) in

@@ -1,8 +1,6 @@
-use Rattle.std.proofs.Common.{◌≡◌, length, take}
-use Rattle.std.specs.Prelude.{map}
+use Rattle.std.{proofs.Common.{◌≡◌, length, take}, specs.Prelude.map}
 use Rattle.flat_circuit.specs.BlockSpans.{groups}
-use Rattle.compaction.specs.Detections.{detects_by}
-use Rattle.compaction.specs.Tallies.{AreTallied}
+use Rattle.compaction.specs.{Detections.detects_by, Tallies.AreTallied}
 use Rattle.compaction.proofs.steepest.counts_of.Given as goal
 
 abbrev pub invariant-loop-class : goal.invariant-loop-class

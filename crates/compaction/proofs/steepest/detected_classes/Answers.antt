@@ -1,10 +1,7 @@
-use Rattle.std.proofs.Common.{◌≡◌, ◌∙◌, ◌++◌, ◌∷◌, ◌+◌, [], ap, cond, sym}
-use Rattle.std.specs.Prelude.{filter}
-use Rattle.std.proofs.lemmas.List.{append-nil}
-use Rattle.std.proofs.lemmas.List.Elements.{filter-append}
+use Rattle.std.{proofs.Common.{◌≡◌, ◌∙◌, ◌++◌, ◌∷◌, ◌+◌, [], ap, cond, sym}, specs.Prelude.filter}
+use Rattle.std.proofs.lemmas.List.{append-nil, Elements.filter-append}
 use Rattle.patterns.specs.Least.{below}
-use Rattle.compaction.specs.Detections.{is_detected}
-use Rattle.compaction.proofs.TestNumbers.{below_more}
+use Rattle.compaction.{specs.Detections.is_detected, proofs.TestNumbers.below_more}
 use Rattle.compaction.proofs.steepest.detected_classes.Goals.{else-has_test}
 use Rattle.compaction.proofs.steepest.detected_classes.Goals.{then-has_test+in_ok-push}
 use Rattle.compaction.proofs.steepest.detected_classes.Goals as goal
@@ -21,8 +18,7 @@ loop-class-preserved c =
           (ap (λ xs. xs ++ class ∷ []) c.loop-class.invariant
           ∙ (ap (λ b. front ++ cond b (class ∷ []) []) (sym w.if-has_test.true ∙ c.has_test.ensures)
           ∙ sym more))
-      | else-has_test w ↦ rw (w.left-is) (c.loop-class.invariant
-          ∙ (sym (append-nil front)
+      | else-has_test w ↦ rw (w.left-is) (c.loop-class.invariant ∙ (sym (append-nil front)
           ∙ (ap (λ b. front ++ cond b (class ∷ []) [])
           (sym w.if-has_test.false ∙ c.has_test.ensures) ∙ sym more)))
     ])

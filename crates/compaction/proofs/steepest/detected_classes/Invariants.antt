@@ -1,5 +1,4 @@
-use Rattle.std.proofs.Common.{◌≡◌}
-use Rattle.std.specs.Prelude.{filter}
+use Rattle.std.{proofs.Common.◌≡◌, specs.Prelude.filter}
 use Rattle.patterns.specs.Least.{below}
 use Rattle.compaction.specs.Detections.{is_detected}
 use Rattle.compaction.proofs.steepest.detected_classes.Given as goal

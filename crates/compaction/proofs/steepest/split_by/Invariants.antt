@@ -1,5 +1,4 @@
-use Rattle.std.proofs.Common.{◌≡◌, not, take}
-use Rattle.std.specs.Prelude.{filter}
+use Rattle.std.{proofs.Common.{◌≡◌, not, take}, specs.Prelude.filter}
 use Rattle.compaction.specs.Detections.{detects_by}
 use Rattle.compaction.proofs.steepest.split_by.Given as goal
 

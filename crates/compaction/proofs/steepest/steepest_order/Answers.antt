@@ -1,13 +1,11 @@
-use Rattle.std.proofs.Common.{Bool, List, true, refl, ◌≡◌, ◌<◌, ◌∙◌, ◌∷◌, [], ℕ, All, ap, arith, count_by, get_or, length, not, subst, sym}
-use Rattle.std.specs.Prelude.{filter}
+use Rattle.std.proofs.Common.{Bool, List, true, refl, ◌≡◌, ◌<◌, ◌∙◌, ◌∷◌, [], ℕ, All, ap, arith}
+use Rattle.std.{proofs.Common.{count_by, get_or, length, not, subst, sym}, specs.Prelude.filter}
 use Rattle.std.proofs.lemmas.List.Elements.{All-filter}
 use Rattle.patterns.specs.Least.{below}
-use Rattle.compaction.specs.Detections.{DetectionTable, detects_by, is_detected}
-use Rattle.compaction.specs.News.{IsBest}
-use Rattle.compaction.proofs.DetectedClasses.{undetected}
-use Rattle.compaction.proofs.PushedElements.{written_over}
-use Rattle.compaction.proofs.SteepestOrder.{AreSome, fewer_left, left_within}
-use Rattle.compaction.proofs.SteepestOrder.{so_far_more, so_far_none, split_counts, steepest}
+use Rattle.compaction.specs.{Detections.{DetectionTable, detects_by, is_detected}, News.IsBest}
+use Rattle.compaction.proofs.{DetectedClasses.undetected, PushedElements.written_over}
+use Rattle.compaction.proofs.SteepestOrder.{AreSome, fewer_left, left_within, so_far_more}
+use Rattle.compaction.proofs.SteepestOrder.{so_far_none, split_counts, steepest}
 use Rattle.compaction.proofs.steepest.steepest_order.Goals as goal
 
 -- without a test yet all are left
@@ -27,7 +25,8 @@ counts_of-requires c =
     let table = c.args.detections.now in
     record {
       classes = subst (All (λ class. class < length table.words))
-          (sym (c.deref.ensures.value ∙ (c.in_ok-left.ensures ∙ none_yet (below (length table.words)) (is_detected table))))
+          (sym (c.deref.ensures.value
+          ∙ (c.in_ok-left.ensures ∙ none_yet (below (length table.words)) (is_detected table))))
           (left_within (is_detected table) (detects_by table) (length table.words) []);
     }
 
@@ -136,7 +135,8 @@ loop-best-preserved c =
       few = omega (arith, few, count, so.are.count);
       so = so_far_more (is_detected table) (detects_by table) (none table) (length table.words)
           table.tests c.loop-best.order.items left c.loop-best.news.items so best
-          c.in_ok-detected.field-0.others.items new of others (record { count = count; each = each });
+          c.in_ok-detected.field-0.others.items new of others
+          (record { count = count; each = each });
     })
 
 pub returns : goal.returns

@@ -1,6 +1,5 @@
 use Rattle.std.proofs.Common.{◌<◌, ◌^◌, length}
-use Rattle.compaction.specs.Detections.{detects_by, is_detected}
-use Rattle.compaction.proofs.SteepestOrder.{IsSoFar}
+use Rattle.compaction.{specs.Detections.{detects_by, is_detected}, proofs.SteepestOrder.IsSoFar}
 use Rattle.compaction.proofs.steepest.steepest_order.Given as goal
 
 abbrev pub invariant-loop-best : goal.invariant-loop-best

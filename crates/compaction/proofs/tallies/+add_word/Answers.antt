@@ -1,9 +1,7 @@
-use Rattle.std.proofs.Common.{◌<◌, ◌+◌, ap, arith, length, subst}
-use Rattle.std.specs.Prelude.{◌^◌}
+use Rattle.std.{proofs.Common.{◌<◌, ◌+◌, ap, arith, length, subst}, specs.Prelude.◌^◌}
 use Rattle.patterns.specs.Tests.{as_number}
 use Rattle.flat_circuit.specs.Words.{lane}
-use Rattle.compaction.specs.Tallies.{number_in}
-use Rattle.compaction.proofs.TallyDigits.{room_above, sum_above}
+use Rattle.compaction.{specs.Tallies.number_in, proofs.TallyDigits.{room_above, sum_above}}
 use Rattle.compaction.proofs.tallies.+add_word.Goals as goal
 
 pub add_word-requires : goal.add_word-requires

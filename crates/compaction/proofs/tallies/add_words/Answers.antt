@@ -1,13 +1,10 @@
-use Rattle.std.proofs.Common.{◌≡◌, ◌+◌, ◌<◌, ◌≤◌, ◌∙◌, ◌⊎◌, [], ℕ, ap, arith, get_or, inl, inr, length, map, set}
-use Rattle.std.proofs.Common.{subst, sym}
-use Rattle.std.specs.Vec.{with_items}
-use Rattle.std.proofs.lemmas.Bool.{cases_lt}
-use Rattle.std.proofs.lemmas.List.{get_or-map, get_or-set_other, get_or-set_same, length-map, map-set}
-use Rattle.std.proofs.Math.Seq.{map-set_same}
+use Rattle.std.proofs.Common.{◌≡◌, ◌+◌, ◌<◌, ◌≤◌, ◌∙◌, ◌⊎◌, [], ℕ, ap, arith, get_or, inl, inr}
+use Rattle.std.{proofs.Common.{length, map, set, subst, sym}, specs.Vec.with_items}
+use Rattle.std.proofs.{lemmas.Bool.cases_lt, lemmas.List.map-set, Math.Seq.map-set_same}
+use Rattle.std.proofs.lemmas.List.{get_or-map, get_or-set_other, get_or-set_same, length-map}
 use Rattle.patterns.specs.Tests.{as_number}
 use Rattle.flat_circuit.specs.Words.{lane}
-use Rattle.compaction.specs.Tallies.{number_in}
-use Rattle.compaction.proofs.PushedElements.{written_over}
+use Rattle.compaction.{specs.Tallies.number_in, proofs.PushedElements.written_over}
 use Rattle.compaction.proofs.tallies.add_words.Goals as goal
 
 -- a place before the one that was written, or this one
@@ -50,9 +47,11 @@ loop-group-preserved c =
     rw (all) (record {
       long = map-set_same (λ words. length words.items) old at v c.index-groups-group.result
           (ap length items ∙ (c.add_word.ensures.count ∙ ap length (sym own))) ∙ so_far.long;
-      done = λ group k lt low. either at group (cases_lt group at) lt (λ before. ap (λ ws. number_in ws k)
+      done = λ group k lt low. either at group (cases_lt group at) lt
+          (λ before. ap (λ ws. number_in ws k)
           (get_or-set_other rows at group new [] (λ e. omega (arith, before, e)))
-          ∙ so_far.done group k before low) (λ e. subst (λ g. number_in (get_or (set rows at new) g []) k
+          ∙ so_far.done group k before low)
+          (λ e. subst (λ g. number_in (get_or (set rows at new) g []) k
           ≡ number_in (get_or (map (λ words. words.items) c.args.groups.now) g []) k
           + as_number (lane (get_or c.args.words.now g 0) k)) e (sum k low));
       left = λ group le. get_or-set_other (map (λ words. words.items) old) at group new []

@@ -1,5 +1,4 @@
-use Rattle.std.proofs.Common.{◌≡◌, ◌+◌, ◌<◌, ◌≤◌, ℕ, [], get_or, length}
-use Rattle.std.specs.Prelude.{map}
+use Rattle.std.{proofs.Common.{◌≡◌, ◌+◌, ◌<◌, ◌≤◌, ℕ, [], get_or, length}, specs.Prelude.map}
 use Rattle.patterns.specs.Tests.{as_number}
 use Rattle.flat_circuit.specs.Words.{lane}
 use Rattle.compaction.specs.Tallies.{number_in}

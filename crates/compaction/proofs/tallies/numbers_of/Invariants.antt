@@ -1,5 +1,4 @@
-use Rattle.std.proofs.Common.{◌≡◌, ◌<◌, ◌/◌, ◌%◌, ℕ, [], get_or, length}
-use Rattle.std.specs.Prelude.{map}
+use Rattle.std.{proofs.Common.{◌≡◌, ◌<◌, ◌/◌, ◌%◌, ℕ, [], get_or, length}, specs.Prelude.map}
 use Rattle.compaction.specs.Tallies.{number_in}
 use Rattle.compaction.proofs.tallies.numbers_of.Given as goal
 

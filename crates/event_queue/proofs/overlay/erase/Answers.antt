@@ -1,6 +1,4 @@
-use Rattle.std.proofs.Common.{arith}
-use Rattle.std.proofs.Common.{◌∙◌, refl}
-use Rattle.std.specs.Prelude.{slice_index_or}
+use Rattle.std.{proofs.Common.{arith, ◌∙◌, refl}, specs.Prelude.slice_index_or}
 use Rattle.std.proofs.lemmas.List.{length-set}
 use Rattle.event_queue.proofs.ChangedWords.{rest_less, none_left}
 use Rattle.event_queue.proofs.overlay.erase.Goals as goal

@@ -1,5 +1,4 @@
-use Rattle.std.proofs.Common.{◌≡◌, ◌≢◌, ◌<◌, ◌≤◌, ℕ, length}
-use Rattle.std.specs.Prelude.{slice_index_or}
+use Rattle.std.{proofs.Common.{◌≡◌, ◌≢◌, ◌<◌, ◌≤◌, ℕ, length}, specs.Prelude.slice_index_or}
 use Rattle.event_queue.proofs.overlay.erase.Given as goal
 
 abbrev pub invariant-loop-signal : goal.invariant-loop-signal

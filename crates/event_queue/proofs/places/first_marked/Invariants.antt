@@ -1,5 +1,4 @@
-use Rattle.std.proofs.Common.{◌≡◌, ◌<◌, ◌≤◌, ℕ}
-use Rattle.std.specs.Prelude.{slice_index_or}
+use Rattle.std.{proofs.Common.{◌≡◌, ◌<◌, ◌≤◌, ℕ}, specs.Prelude.slice_index_or}
 use Rattle.event_queue.proofs.places.first_marked.Given as goal
 
 abbrev pub invariant-loop-at : goal.invariant-loop-at

@@ -1,13 +1,9 @@
 use Rattle.std.proofs.Common.{List, [], ◌∷◌, ◌++◌, take, get_or, sym, ap, ◌∙◌}
 use Rattle.std.proofs.lemmas.List.{take_more}
-use Rattle.fault_ledger.specs.declared.Call.TheVariants.{Claim}
-use Rattle.fault_ledger.specs.declared.Reply.{Reply}
-use Rattle.fault_ledger.specs.Answer.{replies, after_all}
-use Rattle.fault_ledger.specs.Face.{face}
-use Rattle.fault_ledger.proofs.LegalHistories.{never_first}
-use Rattle.fault_ledger.proofs.LeastTests.{settles_at_least}
+use Rattle.fault_ledger.specs.{declared.Call.TheVariants.Claim, declared.Reply.Reply, Face.face}
+use Rattle.fault_ledger.{specs.Answer.{replies, after_all}, proofs.LegalHistories.never_first}
+use Rattle.fault_ledger.proofs.{LeastTests.settles_at_least, CallSequences.legal-after_all}
 use Rattle.fault_ledger.proofs.CallSequences.{reply-at, after_all-more, replies-more}
-use Rattle.fault_ledger.proofs.CallSequences.{legal-after_all}
 use Rattle.fault_ledger.proofs.calls.replay.Goals as goal
 
 pub loop-call-init : goal.loop-call-init

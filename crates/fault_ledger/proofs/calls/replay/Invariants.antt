@@ -1,6 +1,5 @@
 use Rattle.std.proofs.Common.{◌≡◌, [], take}
-use Rattle.fault_ledger.specs.Answer.{replies, after_all}
-use Rattle.fault_ledger.specs.Face.{face}
+use Rattle.fault_ledger.specs.{Answer.{replies, after_all}, Face.face}
 use Rattle.fault_ledger.proofs.calls.replay.Given as goal
 
 abbrev pub invariant-loop-call : goal.invariant-loop-call

@@ -1,6 +1,5 @@
 use Rattle.std.proofs.Common.{◌≡◌, ℕ, ◌<◌, map}
-use Rattle.fault_ledger.specs.declared.PieceState.TheVariants.{Clear}
-use Rattle.fault_ledger.specs.Heads.{state_in}
+use Rattle.fault_ledger.specs.{declared.PieceState.TheVariants.Clear, Heads.state_in}
 use Rattle.fault_ledger.specs.Words.{state_at}
 use Rattle.fault_ledger.proofs.closed.clear_head.Given as goal
 

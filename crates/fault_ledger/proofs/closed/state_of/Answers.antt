@@ -1,6 +1,5 @@
 use Rattle.std.proofs.Common.{◌+◌, ◌*◌, map, ◌∙◌, arith}
-use Rattle.fault_ledger.specs.Words.{state_at}
-use Rattle.fault_ledger.proofs.FieldCodes.{codes_long, state_of_code}
+use Rattle.fault_ledger.{specs.Words.state_at, proofs.FieldCodes.{codes_long, state_of_code}}
 use Rattle.fault_ledger.proofs.ClassStatus.{shown-within}
 use Rattle.fault_ledger.proofs.closed.state_of.Goals as goal
 

@@ -1,6 +1,5 @@
 use Rattle.std.proofs.Common.{◌∙◌, ap}
-use Rattle.fault_ledger.specs.History.{entry}
-use Rattle.fault_ledger.proofs.Histories.{entry_past}
+use Rattle.fault_ledger.{specs.History.entry, proofs.Histories.entry_past}
 use Rattle.fault_ledger.proofs.laws.pieces_change_once.Goals as goal
 
 pub returns : goal.returns

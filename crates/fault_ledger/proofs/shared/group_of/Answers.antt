@@ -1,6 +1,5 @@
 use Rattle.std.proofs.Common.{[], ◌∷◌, ◌++◌, ap, ◌∙◌, append_assoc, rules}
-use Rattle.fault_ledger.specs.Seats.{Sitter}
-use Rattle.fault_ledger.proofs.AllSeats.{seat_place}
+use Rattle.fault_ledger.{specs.Seats.Sitter, proofs.AllSeats.seat_place}
 use Rattle.fault_ledger.proofs.shared.group_of.Goals as goal
 
 pub join-group-requires : goal.join-group-requires

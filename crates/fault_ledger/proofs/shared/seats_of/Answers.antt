@@ -1,6 +1,5 @@
 use Rattle.std.proofs.Common.{◌+◌, ◌-◌, false, [], None, sym, ◌∙◌, subst}
-use Rattle.fault_ledger.specs.Seats.{IsSeated}
-use Rattle.fault_ledger.specs.Words.{post, newcomer_posts}
+use Rattle.fault_ledger.specs.{Seats.IsSeated, Words.{post, newcomer_posts}}
 use Rattle.fault_ledger.proofs.AllSeats.{newcomers_first, deal_first, deal_others, deal_seat}
 use Rattle.fault_ledger.proofs.AllSeats.{deal_more}
 use Rattle.fault_ledger.proofs.shared.seats_of.Goals as goal
@@ -11,8 +10,7 @@ part-token-requires-clause-worker c =
     let n = c.args.shape.workers in (
       post w false [],
       newcomer_posts (w + 1) (n - (w + 1)),
-      c.loop-worker.invariant.posts
-          ∙ newcomers_first w n c.loop-worker-test.true,
+      c.loop-worker.invariant.posts ∙ newcomers_first w n c.loop-worker-test.true,
     )
 
 pub invariant_of-push : goal.invariant_of-push

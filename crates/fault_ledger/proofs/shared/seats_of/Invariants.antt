@@ -1,7 +1,6 @@
 use Rattle.std.proofs.Common.{◌≡◌, ◌-◌, map}
 use Rattle.patterns.specs.Least.{below}
-use Rattle.fault_ledger.specs.Seats.{newcomer}
-use Rattle.fault_ledger.specs.Words.{newcomer_posts}
+use Rattle.fault_ledger.specs.{Seats.newcomer, Words.newcomer_posts}
 use Rattle.fault_ledger.proofs.shared.seats_of.Given as goal
 
 abbrev pub invariant-loop-worker : goal.invariant-loop-worker

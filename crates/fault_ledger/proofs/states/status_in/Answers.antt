@@ -1,12 +1,11 @@
 use Rattle.std.proofs.Common.{◌≡◌, ℕ, ◌+◌, ◌*◌, ◌<◌, ◌≤◌, Some, None, arith, below_more}
 use Rattle.patterns.specs.Tests.{max_pieces}
-use Rattle.fault_ledger.specs.declared.PieceState.TheVariants.{Clear}
+use Rattle.fault_ledger.specs.{declared.PieceState.TheVariants.Clear, History.block_count}
 use Rattle.fault_ledger.specs.declared.Status.TheVariants.{Settled, Waiting}
-use Rattle.fault_ledger.specs.History.{block_count}
 use Rattle.fault_ledger.proofs.ClassStatus.{shown, shown-within, shown-hit, shown-skipped}
 use Rattle.fault_ledger.proofs.ClassStatus.{shown-status, status-hit, status-open, status-none}
-use Rattle.fault_ledger.proofs.states.status_in.Goals as goal
 use Rattle.fault_ledger.proofs.ShapeLimits.{few_blocks}
+use Rattle.fault_ledger.proofs.states.status_in.Goals as goal
 
 pub bounds : goal.bounds
 bounds c =

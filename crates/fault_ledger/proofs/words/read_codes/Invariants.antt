@@ -1,5 +1,4 @@
-use Rattle.std.proofs.Common.{◌≡◌, ℕ, ◌<◌, get_or, length}
-use Rattle.std.specs.Mem.Slots.{slots_items}
+use Rattle.std.{proofs.Common.{◌≡◌, ℕ, ◌<◌, get_or, length}, specs.Mem.Slots.slots_items}
 use Rattle.fault_ledger.specs.Words as rule
 use Rattle.fault_ledger.proofs.words.read_codes.Given as goal
 

@@ -1,11 +1,8 @@
 use Rattle.std.proofs.Common.{◌≡◌, ◌≤◌, ◌<◌, ◌+◌, ◌*◌, ℕ, length, ap, subst, sym, arith}
 use Rattle.std.proofs.lemmas.List.{with_items_is}
 use Rattle.bench_net.specs.Circuit.{max_signals, max_sinks}
-use Rattle.fault_model.specs.Fault.{faults}
-use Rattle.fault_model.specs.Collapse.{AreClassesOf}
-use Rattle.fault_model.specs.Known.{HasClassAt}
-use Rattle.fault_model.proofs.FaultLines.{faults_within}
-use Rattle.fault_model.proofs.FollowedClasses.{classes_are}
+use Rattle.fault_model.specs.{Fault.faults, Collapse.AreClassesOf, Known.HasClassAt}
+use Rattle.fault_model.proofs.{FaultLines.faults_within, FollowedClasses.classes_are}
 use Rattle.fault_model.proofs.ClassLaws.{classes_show_same}
 use Rattle.fault_model.proofs.classes.collapse.Goals as goal
 
@@ -31,8 +28,7 @@ returns-clause-classes c =
     let whole : length written ≡ made.len =
     omega (arith, c.follow_chains.auto.class_of, c.as_mut_slice.ensures.len) in
     let items = with_items_is made written whole in
-    let count : length written ≡ length (faults m circuit) =
-    omega (
+    let count : length written ≡ length (faults m circuit) = omega (
       arith,
       c.follow_chains.auto.class_of,
       c.as_mut_slice.ensures.len,

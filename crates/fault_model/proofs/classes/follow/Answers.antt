@@ -1,8 +1,7 @@
 use Rattle.std.proofs.Common.{◌≡◌, ◌<◌, length, Some, ap, subst, ◌∙◌, get_or, refl, set}
 use Rattle.std.specs.Prelude.{slice_get, option_map, option_and_then}
 use Rattle.list_lemmas.proofs.Places.{within_place}
-use Rattle.fault_model.specs.Fault.{faults}
-use Rattle.fault_model.specs.Collapse.{next}
+use Rattle.fault_model.specs.{Fault.faults, Collapse.next}
 use Rattle.fault_model.proofs.FollowedClasses.{Followed, follow_some}
 use Rattle.fault_model.proofs.classes.follow.Goals.{In-Some}
 use Rattle.fault_model.proofs.classes.follow.Goals as goal
@@ -27,8 +26,7 @@ written c =
     c.requires.next found refl
 
 pub returns-in-Some-clause-known : goal.returns-in-Some-clause-known
-returns-in-Some-clause-known c =
-    (written (goal.at.returns-in-Some-clause-known c).In-Some).known
+returns-in-Some-clause-known c = (written (goal.at.returns-in-Some-clause-known c).In-Some).known
 
 pub returns-in-Some-clause-kept : goal.returns-in-Some-clause-kept
 returns-in-Some-clause-kept c = (written (goal.at.returns-in-Some-clause-kept c).In-Some).kept

@@ -1,16 +1,10 @@
-use Rattle.std.proofs.Common.{◌≡◌, ◌<◌, ◌+◌, ◌-◌, ℕ, true, false, List, length, Some, subst}
-use Rattle.std.proofs.Common.{get_or, arith}
-use Rattle.std.specs.Prelude.{slice_get}
-use Rattle.std.proofs.lemmas.Option.{slice_get-get_or}
-use Rattle.bench_net.specs.Statement.{Statement}
-use Rattle.bench_net.specs.Level.{IsLevelOrder}
-use Rattle.bench_net.specs.Scan.{names}
+use Rattle.std.proofs.Common.{◌≡◌, ◌<◌, ◌+◌, ◌-◌, ℕ, true, false, List, length, Some, subst, get_or}
+use Rattle.std.{proofs.Common.arith, specs.Prelude.slice_get, proofs.lemmas.Option.slice_get-get_or}
+use Rattle.bench_net.specs.{Statement.Statement, Level.IsLevelOrder, Scan.names}
 use Rattle.list_lemmas.proofs.Places.{place_within}
 use Rattle.fault_model.specs.declared.Line.TheVariants as line
-use Rattle.fault_model.specs.declared.Model.{Model}
-use Rattle.fault_model.specs.Fault.{faults}
-use Rattle.fault_model.proofs.ListedFaults.{fault_on}
-use Rattle.fault_model.proofs.NextFaultLevels.{in_order_named}
+use Rattle.fault_model.specs.{declared.Model.Model, Fault.faults}
+use Rattle.fault_model.proofs.{ListedFaults.fault_on, NextFaultLevels.in_order_named}
 use Rattle.fault_model.proofs.StemClasses.{StemsFrom, stems_kept, stem_next, stems_more, stems_all}
 use Rattle.fault_model.proofs.classes.follow_stems.Goals.{After-stem_fault}
 use Rattle.fault_model.proofs.classes.follow_stems.Goals.{After-stem_fault-in-loop-place}

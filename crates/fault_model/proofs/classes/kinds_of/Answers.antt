@@ -1,6 +1,5 @@
-use Rattle.std.proofs.Common.{◌≡◌, ◌⊎◌, ◌<◌, ◌≤◌, ◌+◌, ◌∷◌, [], ◌∙◌, inl, inr, arith, ap, ℕ}
-use Rattle.std.proofs.Common.{length, length-append, refl}
-use Rattle.std.specs.Prelude.{None, slice_index_or}
+use Rattle.std.proofs.Common.{◌≡◌, ◌⊎◌, ◌<◌, ◌≤◌, ◌+◌, ◌∷◌, [], ◌∙◌, inl, inr, arith, ap, ℕ, length}
+use Rattle.std.{proofs.Common.{length-append, refl}, specs.Prelude.{None, slice_index_or}}
 use Rattle.std.proofs.lemmas.Bool.{cases_lt}
 use Rattle.fault_model.specs.Collapse.{kind_of}
 use Rattle.fault_model.proofs.classes.kinds_of.Goals as goal
@@ -19,8 +18,7 @@ loop-signal-preserved c = record {
     go : (i : ℕ) → i < c.loop-signal.signal + 1
         → (i < c.loop-signal.signal) ⊎ (c.loop-signal.signal ≤ i)
         → slice_index_or c.push.new.self.items i None ≡ kind_of c.args.circuit.now i
-    go i lt (inl h) =
-        c.in_ok-push.ensures.by_index.0 i None (omega (arith, h, same))
+    go i lt (inl h) = c.in_ok-push.ensures.by_index.0 i None (omega (arith, h, same))
         ∙ c.loop-signal.invariant.each i h
     go i lt (inr h) =
         let here : i ≡ c.loop-signal.signal = omega (arith, lt, h) in

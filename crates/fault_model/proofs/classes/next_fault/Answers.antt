@@ -1,11 +1,9 @@
 use Rattle.std.proofs.Common.{◌≡◌, ◌<◌, Bool, Some, None, ap, arith, length, sym, ◌∙◌}
 use Rattle.std.specs.Prelude.{Option, slice_get, option_map, option_and_then}
-use Rattle.bench_net.specs.Scan.{names, name_of}
-use Rattle.bench_net.specs.Statement.{Name}
+use Rattle.bench_net.specs.{Scan.{names, name_of}, Statement.Name}
 use Rattle.list_lemmas.proofs.Places.{place_within}
 use Rattle.fault_model.specs.declared.Line.TheVariants as line
-use Rattle.fault_model.specs.Fault.{Fault}
-use Rattle.fault_model.specs.Collapse.{next, next_stuck, kind_of}
+use Rattle.fault_model.specs.{Fault.Fault, Collapse.{next, next_stuck, kind_of}}
 use Rattle.fault_model.proofs.ListedFaults.{fault_on}
 use Rattle.fault_model.proofs.NextFault.{FaultAt, line_at, fault_at, listed_in_circuit}
 use Rattle.fault_model.proofs.NextFault.{gate_is_signal, next_at_gate, by_table}

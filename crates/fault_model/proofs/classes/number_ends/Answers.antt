@@ -2,12 +2,11 @@ use Rattle.std.proofs.Common.{◌≡◌, ◌<◌, ◌+◌, Bool, true, false, []
 use Rattle.std.proofs.Common.{ap, ◌∙◌, subst, arith}
 use Rattle.std.specs.Prelude.{slice_get, option_map, option_and_then, is_some, not}
 use Rattle.list_lemmas.proofs.Places.{within_place}
-use Rattle.fault_model.specs.Fault.{faults}
-use Rattle.fault_model.specs.Collapse.{next}
+use Rattle.fault_model.specs.{Fault.faults, Collapse.next}
 use Rattle.fault_model.proofs.RepresentativeNumbers.{Numbered, numbered_end, numbered_other}
 use Rattle.fault_model.proofs.RepresentativeNumbers.{numbered_ends, answer_none, answer_is_some}
-use Rattle.fault_model.proofs.classes.number_ends.Goals as goal
 use Rattle.fault_model.proofs.classes.number_ends.Goals.{then-is_none+in_ok-push-2, else-is_none}
+use Rattle.fault_model.proofs.classes.number_ends.Goals as goal
 
 opposite : (some none b : Bool) → some ≡ not none → none ≡ b → not some ≡ b
 opposite some true b e h = ap not e ∙ h
@@ -54,8 +53,7 @@ pub returns-clause-classes : goal.returns-clause-classes
 returns-clause-classes c =
     let circuit = c.args.circuit.now in
     let m = c.args.list.now.model in
-    let last : c.loop-fault.fault ≡ length (faults m circuit) =
-    omega (
+    let last : c.loop-fault.fault ≡ length (faults m circuit) = omega (
       arith,
       c.loop-fault-test.false,
       c.loop-fault.auto.fault-end,

@@ -1,15 +1,12 @@
 use Rattle.std.proofs.Common.{◌≡◌, ◌≤◌, ◌+◌, ℕ, List, [], ◌∷◌, ◌++◌, length, map, ap, subst, ◌∙◌}
-use Rattle.std.proofs.Common.{arith}
-use Rattle.bench_net.specs.Statement.{Statement}
-use Rattle.fault_model.specs.declared.Line.{Line}
-use Rattle.std.specs.Prelude.{flat_map}
-use Rattle.bench_net.specs.Scan.{names, sinks}
+use Rattle.std.{proofs.Common.arith, specs.Prelude.flat_map}
+use Rattle.bench_net.specs.{Statement.Statement, Scan.{names, sinks}}
 use Rattle.bench_net.specs.Circuit.{max_signals, max_sinks}
-use Rattle.list_lemmas.proofs.Places.{within_place}
-use Rattle.fault_model.specs.declared.Line.TheVariants as line
-use Rattle.fault_model.specs.Fault.{branch, branches, both}
+use Rattle.fault_model.specs.{declared.Line.Line, Fault.{branch, branches, both}}
 use Rattle.fault_model.proofs.FaultLines.{faults_are}
 use Rattle.fault_model.proofs.BuiltLines.{Built, built_more, built_within, built_all, built_stems}
+use Rattle.list_lemmas.proofs.Places.{within_place}
+use Rattle.fault_model.specs.declared.Line.TheVariants as line
 use Rattle.fault_model.proofs.faults.list_faults_in.Goals as goal
 
 pub overflow_cast-len : goal.overflow_cast-len
@@ -34,8 +31,7 @@ loop-signal-preserved c =
     rw (c.in_ok-push_branches.ensures, c.in_ok-push-2.ensures.items, read) in
     let stems_are : stems ++ length ls ∷ [] ≡ c.push.new.self.items =
     rw (c.in_ok-push.ensures.items, count) in
-    subst (λ xs. Built circuit (k + 1) xs c.push.new.self.items) lines_are
-    (subst
+    subst (λ xs. Built circuit (k + 1) xs c.push.new.self.items) lines_are (subst
     (λ xs. Built circuit (k + 1) ((ls ++ line.Stem k ∷ []) ++ map branch (branches circuit p.0)) xs)
     stems_are (built_more circuit k p.0 ls stems p.1 c.loop-signal.invariant))
 

@@ -1,10 +1,7 @@
-use Rattle.fault_model.proofs.ReorderedNames.{circuit_reordered}
-use Rattle.fault_model.proofs.ReorderedSignals.{same_signals}
-use Rattle.fault_model.proofs.ReorderedSinks.{same_sinks}
+use Rattle.fault_model.proofs.{ReorderedNames.circuit_reordered, ReorderedSignals.same_signals}
+use Rattle.fault_model.proofs.{ReorderedSinks.same_sinks, ReorderedSolutions.detected_same_at}
 use Rattle.fault_model.proofs.ReorderedSolutions.{solved_same, detected_same, same_bits}
-use Rattle.fault_model.proofs.ReorderedSolutions.{detected_same_at}
-use Rattle.fault_model.proofs.StatementOrders.{in_signal_order, one_level_order}
-use Rattle.fault_model.proofs.StatementOrders.{ordered_by_level}
+use Rattle.fault_model.proofs.StatementOrders.{in_signal_order, one_level_order, ordered_by_level}
 use Rattle.fault_model.proofs.laws.reordering.Goals as goal
 
 pub returns-clause-circuit : goal.returns-clause-circuit

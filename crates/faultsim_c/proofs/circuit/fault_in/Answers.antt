@@ -1,13 +1,10 @@
-use Rattle.std.proofs.Common.{◌≡◌, ◌≢◌, ◌∙◌, ◌+◌, ◌<◌, ◌≤◌, ◌⊎◌, inl, inr, ℕ, List, Some, ap}
-use Rattle.std.proofs.Common.{arith, false, get_or, length, subst, sym}
-use Rattle.std.specs.Prelude.{slice_get}
-use Rattle.std.proofs.lemmas.Bool.{cases_lt}
-use Rattle.std.proofs.lemmas.Option.{slice_get-get_or, slice_get_within}
+use Rattle.std.proofs.Common.{◌≡◌, ◌≢◌, ◌∙◌, ◌+◌, ◌<◌, ◌≤◌, ◌⊎◌, inl, inr, ℕ, List, Some, ap, arith}
+use Rattle.std.{proofs.Common.{false, get_or, length, subst, sym}, specs.Prelude.slice_get}
+use Rattle.std.proofs.lemmas.{Bool.cases_lt, Option.{slice_get-get_or, slice_get_within}}
 use Rattle.fault_model.specs.declared.Line.TheVariants as line
 use Rattle.fault_model.specs.declared.Model.TheVariants as model
 use Rattle.fault_model.specs.Fault.{Fault, FaultList}
-use Rattle.faultsim_c.specs.Circuits.{site_of}
-use Rattle.faultsim_c.specs.declared.circuit.FsSite.{FsSite}
+use Rattle.faultsim_c.specs.{Circuits.site_of, declared.circuit.FsSite.FsSite}
 use Rattle.faultsim_c.proofs.circuit.fault_in.Goals as goal
 
 no_fault : Fault

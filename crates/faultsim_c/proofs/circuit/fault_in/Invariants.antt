@@ -1,5 +1,4 @@
-use Rattle.std.proofs.Common.{◌≡◌, ◌≢◌, ℕ, ◌<◌, Some}
-use Rattle.std.specs.Prelude.{slice_get}
+use Rattle.std.{proofs.Common.{◌≡◌, ◌≢◌, ℕ, ◌<◌, Some}, specs.Prelude.slice_get}
 use Rattle.fault_model.specs.Fault.{Fault}
 use Rattle.faultsim_c.specs.Circuits.{site_of}
 use Rattle.faultsim_c.proofs.circuit.fault_in.Given as goal

@@ -1,5 +1,4 @@
-use Rattle.std.proofs.Common.{◌≡◌, ℕ, ◌<◌, length, take}
-use Rattle.std.specs.Prelude.{slice_index}
+use Rattle.std.{proofs.Common.{◌≡◌, ℕ, ◌<◌, length, take}, specs.Prelude.slice_index}
 use Rattle.faultsim_c.specs.Circuits.{fan_in, rows_before}
 use Rattle.faultsim_c.proofs.circuit.fill_fan_ins.Given as goal
 

@@ -1,11 +1,8 @@
-use Rattle.std.proofs.Common.{◌≡◌, ◌∙◌, ◌+◌, ap, arith, length, sym, ℕ}
-use Rattle.std.proofs.lemmas.Grind.{common_steps}
+use Rattle.std.proofs.{Common.{◌≡◌, ◌∙◌, ◌+◌, ap, arith, length, sym, ℕ}, lemmas.Grind.common_steps}
 use Rattle.std.proofs.lemmas.List.{take_all}
 use Rattle.bench_net.specs.Scan.{names}
-use Rattle.faultsim_c.specs.Circuits.{fan_out, rows_before}
-use Rattle.faultsim_c.proofs.CircuitRows.{pins_within, row_long, rows_within}
-use Rattle.faultsim_c.proofs.FanOuts.{fan_outs_count}
-use Rattle.faultsim_c.proofs.Tables.{next}
+use Rattle.faultsim_c.{specs.Circuits.{fan_out, rows_before}, proofs.FanOuts.fan_outs_count}
+use Rattle.faultsim_c.proofs.{CircuitRows.{pins_within, row_long, rows_within}, Tables.next}
 use Rattle.faultsim_c.proofs.circuit.fill_fan_outs.Goals as goal
 
 pub overflow_cast-starts : goal.overflow_cast-starts
@@ -57,19 +54,16 @@ returns c =
     let n = length (names circuit) in
     let end : c.loop-signal.signal ≡ n = omega arith in
     let place : c.loop-signal.place ≡ length (rows_before (fan_out circuit) n) =
-    c.loop-signal.invariant.place
-    ∙ ap (λ (k : ℕ). length (rows_before (fan_out circuit) k)) end in
+    c.loop-signal.invariant.place ∙ ap (λ (k : ℕ). length (rows_before (fan_out circuit) k)) end in
     let whole : length c.loop-signal.pins ≡ c.loop-signal.place = omega arith in
     let at : c.signals-end.result ≡ n = omega arith in
     record {
       start_count = grind (arith, common_steps);
-      each = λ k le.
-          next (λ (j start : ℕ). start ≡ length (rows_before (fan_out circuit) j))
+      each = λ k le. next (λ (j start : ℕ). start ≡ length (rows_before (fan_out circuit) j))
           c.signals-end.result c.loop-signal.place c.loop-signal.starts (omega arith)
           (place ∙ ap (λ (j : ℕ). length (rows_before (fan_out circuit) j)) (sym at))
           (λ j lt. c.loop-signal.invariant.starts j (omega (arith, lt, at, end))) k
           (omega (arith, le, at));
       items_are = sym (take_all c.loop-signal.place c.loop-signal.pins (omega (arith, whole)))
-          ∙ (c.loop-signal.invariant.rows
-          ∙ ap (λ (k : ℕ). rows_before (fan_out circuit) k) end);
+          ∙ (c.loop-signal.invariant.rows ∙ ap (λ (k : ℕ). rows_before (fan_out circuit) k) end);
     }

@@ -1,5 +1,4 @@
-use Rattle.std.proofs.Common.{◌≡◌, ℕ, ◌<◌, length}
-use Rattle.std.specs.Prelude.{slice_index}
+use Rattle.std.{proofs.Common.{◌≡◌, ℕ, ◌<◌, length}, specs.Prelude.slice_index}
 use Rattle.bench_net.specs.Scan.{gate_of}
 use Rattle.faultsim_c.specs.Circuits.{kind_number}
 use Rattle.faultsim_c.proofs.circuit.fill_kinds.Given as goal

@@ -1,7 +1,5 @@
-use Rattle.std.proofs.Common.{◌∙◌, arith}
-use Rattle.std.proofs.lemmas.List.{length-set}
-use Rattle.faultsim_c.specs.Circuits.{IsLevelAt}
-use Rattle.faultsim_c.proofs.Tables.{next}
+use Rattle.std.proofs.{Common.{◌∙◌, arith}, lemmas.List.length-set}
+use Rattle.faultsim_c.{specs.Circuits.IsLevelAt, proofs.Tables.next}
 use Rattle.faultsim_c.proofs.circuit.fill_levels.Goals as goal
 
 pub loop-signal-preserved : goal.loop-signal-preserved

@@ -1,10 +1,7 @@
-use Rattle.std.proofs.Common.{◌≡◌, ◌∙◌, Some, ap, arith, length}
-use Rattle.std.specs.Prelude.{slice_get}
-use Rattle.std.proofs.lemmas.List.{length-set}
-use Rattle.std.proofs.lemmas.Option.{slice_get-get_or, slice_get_within}
+use Rattle.std.{proofs.Common.{◌≡◌, ◌∙◌, Some, ap, arith, length}, specs.Prelude.slice_get}
+use Rattle.std.proofs.lemmas.{List.length-set, Option.{slice_get-get_or, slice_get_within}}
 use Rattle.fault_model.specs.Fault.{Fault, FaultList}
-use Rattle.faultsim_c.specs.Circuits.{no_site, site_of}
-use Rattle.faultsim_c.proofs.Tables.{next_of}
+use Rattle.faultsim_c.{specs.Circuits.{no_site, site_of}, proofs.Tables.next_of}
 use Rattle.faultsim_c.proofs.circuit.fill_sites.Goals as goal
 
 pub loop-fault-preserved : goal.loop-fault-preserved

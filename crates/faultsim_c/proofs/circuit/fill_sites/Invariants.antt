@@ -1,5 +1,4 @@
-use Rattle.std.proofs.Common.{◌≡◌, ℕ, ◌<◌, Some, get_or, length}
-use Rattle.std.specs.Prelude.{slice_get}
+use Rattle.std.{proofs.Common.{◌≡◌, ℕ, ◌<◌, Some, get_or, length}, specs.Prelude.slice_get}
 use Rattle.fault_model.specs.Fault.{Fault}
 use Rattle.faultsim_c.specs.Circuits.{no_site, site_of}
 use Rattle.faultsim_c.proofs.circuit.fill_sites.Given as goal

@@ -1,6 +1,5 @@
 use Rattle.std.proofs.Common.{◌+◌, List, ap, arith, length, ℕ}
-use Rattle.faultsim_c.specs.Circuits.{fan_in}
-use Rattle.faultsim_c.proofs.CircuitRows.{pins_within, row_long}
+use Rattle.faultsim_c.{specs.Circuits.fan_in, proofs.CircuitRows.{pins_within, row_long}}
 use Rattle.faultsim_c.proofs.circuit.pin_count.Goals as goal
 
 pub overflow_add-count : goal.overflow_add-count

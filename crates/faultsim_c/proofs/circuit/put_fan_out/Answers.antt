@@ -1,12 +1,9 @@
 use Rattle.std.proofs.Common.{◌≡◌, ◌∙◌, ◌+◌, ◌++◌, List, ap, arith, length, sym, take, ℕ}
 use Rattle.std.proofs.lemmas.List.{take_all}
-use Rattle.bench_net.specs.declared.Sink.{Sink}
-use Rattle.bench_net.specs.declared.Sink.TheVariants.{Pin}
-use Rattle.faultsim_c.specs.Circuits.{fan_out}
-use Rattle.faultsim_c.specs.declared.circuit.FsPin.{FsPin}
+use Rattle.bench_net.specs.declared.Sink.{Sink, TheVariants.Pin}
+use Rattle.faultsim_c.specs.{Circuits.fan_out, declared.circuit.FsPin.FsPin}
 use Rattle.faultsim_c.proofs.FanOuts.{among_fan_out, none_put, pin_count_more, pin_put, pins_among}
-use Rattle.faultsim_c.proofs.FanOuts.{room_for_pin}
-use Rattle.faultsim_c.proofs.circuit.put_fan_out.Goals.{in-Pin, in_default}
+use Rattle.faultsim_c.proofs.{FanOuts.room_for_pin, circuit.put_fan_out.Goals.{in-Pin, in_default}}
 use Rattle.faultsim_c.proofs.circuit.put_fan_out.Goals as goal
 
 pub bounds-pins-next : goal.bounds-pins-next
@@ -70,8 +67,7 @@ returns-clause-after c =
     c.signals-signals.ensures.circuit.well_formed c.name_of-name.ensures
     (c.sinks_of-sinks.ensures c.name_of-name.result.now (sym c.name_of-name.ensures)) in
     let end = take_all c.loop-sink.sink-index ks c.loop-sink-test.false in
-    c.loop-sink.invariant.place
-    ∙ ap (λ (l : List FsPin). c.args.place + length l)
+    c.loop-sink.invariant.place ∙ ap (λ (l : List FsPin). c.args.place + length l)
     (ap (λ (l : List Sink). pins_among l) end ∙ whole)
 
 pub returns-clause-rows : goal.returns-clause-rows
@@ -82,8 +78,7 @@ returns-clause-rows c =
     (c.sinks_of-sinks.ensures c.name_of-name.result.now (sym c.name_of-name.ensures)) in
     let end = take_all c.loop-sink.sink-index ks c.loop-sink-test.false in
     let all : pins_among (take c.loop-sink.sink-index ks)
-    ≡ fan_out c.args.circuit.now c.args.signal =
-    ap (λ (l : List Sink). pins_among l) end ∙ whole in
+    ≡ fan_out c.args.circuit.now c.args.signal = ap (λ (l : List Sink). pins_among l) end ∙ whole in
     ap (λ (l : List FsPin). take (c.args.place + length l) c.loop-sink.pins) (sym all)
     ∙ (ap (λ (n : ℕ). take n c.loop-sink.pins) (sym c.loop-sink.invariant.place)
     ∙ (c.loop-sink.invariant.rows

@@ -1,7 +1,6 @@
 use Rattle.std.proofs.Common.{◌≡◌, ◌+◌, ◌*◌, ◌∙◌, ℕ, All, List, ap, arith, inl, inr, length, subst}
 use Rattle.std.proofs.Common.{sym}
-use Rattle.patterns.specs.Making.{IsMadeOf, IsWordsRefusal}
-use Rattle.patterns.specs.Tests.{blocks}
+use Rattle.patterns.specs.{Making.{IsMadeOf, IsWordsRefusal}, Tests.blocks}
 use Rattle.faultsim_c.specs.Following.{after_last}
 use Rattle.faultsim_c.proofs.MovedTests.{all_wide, joined_count, not_refused, same_tests}
 use Rattle.faultsim_c.proofs.following.moved.Goals as goal
@@ -21,8 +20,7 @@ returns-in-Ok-clause-tests c =
     (subst (λ (l : List ℕ). IsMadeOf c.width.result (c.count.result + 1) l c.in-Ok.tests)
     c.as_slice.ensures.value c.in-Ok.ensures.tests)) in
     same_tests tests new.width words long c.in_ok-words.ensures.words c.in-Ok.tests made
-    c.in-Ok.ensures.list
-    (all_wide old.tests new.tests c.requires.some new.width
+    c.in-Ok.ensures.list (all_wide old.tests new.tests c.requires.some new.width
     (subst (λ (n : ℕ). All (λ test. length test ≡ n) old.tests) c.requires.width
     c.width-width.ensures.tests.each) c.width.ensures.tests.each)
 

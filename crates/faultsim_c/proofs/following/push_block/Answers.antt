@@ -1,7 +1,5 @@
-use Rattle.std.proofs.Common.{◌∷◌, [], ap, arith, length, subst, sym}
-use Rattle.std.proofs.lemmas.List.{length-append}
-use Rattle.faultsim_c.specs.Following.{AreFirstWords, after_last}
-use Rattle.faultsim_c.proofs.MovedTests.{words_more}
+use Rattle.std.proofs.{Common.{◌∷◌, [], ap, arith, length, subst, sym}, lemmas.List.length-append}
+use Rattle.faultsim_c.{specs.Following.{AreFirstWords, after_last}, proofs.MovedTests.words_more}
 use Rattle.faultsim_c.proofs.following.push_block.Goals as goal
 
 pub loop-source-preserved : goal.loop-source-preserved

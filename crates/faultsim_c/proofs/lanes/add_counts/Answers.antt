@@ -1,11 +1,8 @@
-use Rattle.std.proofs.Common.{◌≡◌, ◌∙◌, ◌+◌, ℕ, Some, arith, get_or}
-use Rattle.std.proofs.Common.{min, sym}
-use Rattle.std.specs.Prelude.{count_ones, slice_get}
-use Rattle.std.proofs.lemmas.List.{length-set}
+use Rattle.std.proofs.Common.{◌≡◌, ◌∙◌, ◌+◌, ℕ, Some, arith, get_or, min, sym}
+use Rattle.std.{specs.Prelude.{count_ones, slice_get}, proofs.lemmas.List.length-set}
 use Rattle.std.proofs.lemmas.Option.{get_or_from_slice_get, slice_get-get_or, slice_get_within}
 use Rattle.flat_circuit.proofs.Public.{set_there}
-use Rattle.faultsim_c.specs.Lanes.{IsBlockCount}
-use Rattle.faultsim_c.proofs.BlockLanes.{block_count, block_lanes}
+use Rattle.faultsim_c.{specs.Lanes.IsBlockCount, proofs.BlockLanes.{block_count, block_lanes}}
 use Rattle.faultsim_c.proofs.Tables.{next}
 use Rattle.faultsim_c.proofs.lanes.add_counts.Goals as goal
 
@@ -31,8 +28,7 @@ loop-place-preserved c =
       each = next (λ k n. (class old : ℕ) → slice_get classes k ≡ Some class
           → slice_get first k ≡ Some old
           → (added : ℕ) × IsBlockCount parts class block added × (n ≡ min most (old + added))) place
-          r counts (omega (arith, same, low))
-          (λ class old at was.
+          r counts (omega (arith, same, low)) (λ class old at was.
           let word = slice_get-get_or words place 0 (omega (arith, low, fit, count)) in
           let told = block_lanes parts block class (get_or words place 0) own
           (c.requires.words.each place class (get_or words place 0) at word)
@@ -43,8 +39,7 @@ loop-place-preserved c =
             count_ones own,
             block_count parts block class own c.block_word-added.type_inv told,
             omega (arith, here, c.min.ensures, c.saturating_add.ensures, c.ranges.most.fits),
-          ))
-          before.each;
+          )) before.each;
       others = λ k high. set_there counts place k r (λ e. omega (arith, e, high))
           ∙ before.others k (omega (arith, high));
     }

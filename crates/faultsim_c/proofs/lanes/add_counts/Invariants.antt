@@ -8,8 +8,7 @@ abbrev pub invariant-loop-place : goal.invariant-loop-place
 invariant-loop-place l = record {
   long : length l.counts ≡ length l.fn.counts;
   each : (k : ℕ) → k < l.place → (class old : ℕ) → slice_get l.classes k ≡ Some class
-      → slice_get l.fn.counts k ≡ Some old
-      → (n : ℕ) × IsBlockCount l.job class l.block n ×
+      → slice_get l.fn.counts k ≡ Some old → (n : ℕ) × IsBlockCount l.job class l.block n ×
       (slice_index l.counts k ≡ min l.most (old + n));
   others : (k : ℕ) → l.place ≤ k → slice_get l.counts k ≡ slice_get l.fn.counts k;
 }

@@ -1,10 +1,8 @@
-use Rattle.std.proofs.Common.{◌≡◌, ◌∙◌, ℕ, Some, arith, get_or, subst}
-use Rattle.std.specs.Prelude.{slice_get}
+use Rattle.std.{proofs.Common.{◌≡◌, ◌∙◌, ℕ, Some, arith, get_or, subst}, specs.Prelude.slice_get}
 use Rattle.std.proofs.lemmas.List.{length-set}
 use Rattle.std.proofs.lemmas.Option.{get_or_from_slice_get, slice_get-get_or, slice_get_within}
 use Rattle.block_sim.specs.First.{AreDetecting}
-use Rattle.faultsim_c.proofs.BlockLanes.{block_lanes}
-use Rattle.faultsim_c.proofs.Tables.{next}
+use Rattle.faultsim_c.proofs.{BlockLanes.block_lanes, Tables.next}
 use Rattle.faultsim_c.proofs.lanes.write_lanes.Goals as goal
 
 pub loop-place-preserved : goal.loop-place-preserved
@@ -25,8 +23,7 @@ loop-place-preserved c =
       long = length-set lanes place r ∙ same;
       each = next (λ k n. (class : ℕ) → slice_get classes k ≡ Some class
           → AreDetecting parts.list.model parts.circuit parts.tests.tests class block n) place r
-          lanes (omega (arith, same, low))
-          (λ class own.
+          lanes (omega (arith, same, low)) (λ class own.
           let at = slice_get-get_or words place 0 (omega (arith, low, fit, count)) in
           block_lanes parts block class (get_or words place 0) r
           (c.requires.words.each place class (get_or words place 0) own at) c.block_word.ensures)

@@ -1,9 +1,6 @@
-use Rattle.std.proofs.Common.{◌≡◌, ◌∙◌, ℕ, Some, arith, get_or, subst}
-use Rattle.std.specs.Prelude.{slice_get}
-use Rattle.std.proofs.lemmas.List.{length-set}
-use Rattle.std.proofs.lemmas.Option.{get_or_from_slice_get, slice_get_within}
-use Rattle.block_sim.specs.Flips.{AreObserving}
-use Rattle.block_sim.specs.Parts.{Parts}
+use Rattle.std.{proofs.Common.{◌≡◌, ◌∙◌, ℕ, Some, arith, get_or, subst}, specs.Prelude.slice_get}
+use Rattle.std.proofs.lemmas.{List.length-set, Option.{get_or_from_slice_get, slice_get_within}}
+use Rattle.block_sim.specs.{Flips.AreObserving, Parts.Parts}
 use Rattle.faultsim_c.proofs.Tables.{next}
 use Rattle.faultsim_c.proofs.observed.observe_signals.Goals as goal
 
@@ -28,8 +25,7 @@ loop-place-preserved c =
           (λ s own. subst (λ x. AreObserving parts.circuit parts.tests.tests x block r)
           (get_or_from_slice_get signals place s 0 own)
           (subst (λ (p : Parts). AreObserving p.circuit p.tests.tests (get_or signals place 0)
-          block r) before.kept c.observing.ensures.lanes))
-          before.each;
+          block r) before.kept c.observing.ensures.lanes)) before.each;
     }
 
 pub returns-clause-observed : goal.returns-clause-observed

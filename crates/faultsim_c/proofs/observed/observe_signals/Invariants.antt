@@ -1,5 +1,4 @@
-use Rattle.std.proofs.Common.{◌≡◌, ℕ, ◌<◌, Some, length}
-use Rattle.std.specs.Prelude.{slice_get, slice_index}
+use Rattle.std.{proofs.Common.{◌≡◌, ℕ, ◌<◌, Some, length}, specs.Prelude.{slice_get, slice_index}}
 use Rattle.block_sim.specs.Flips.{AreObserving}
 use Rattle.faultsim_c.proofs.observed.observe_signals.Given as goal
 

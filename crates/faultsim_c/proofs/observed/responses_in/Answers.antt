@@ -1,14 +1,10 @@
 use Rattle.std.proofs.Common.{◌≡◌, ◌∙◌, ◌≤◌, ◌+◌, ◌*◌, ◌/◌, ◌%◌, List, ap, arith, length, refl}
-use Rattle.std.proofs.Common.{subst}
-use Rattle.std.specs.Prelude.{slice_index}
-use Rattle.std.proofs.Math.Nat.{mul-le-mul_left}
-use Rattle.std.proofs.lemmas.List.{length-set}
-use Rattle.std.proofs.lemmas.Nat.{div-mul-add, mod-mul-add}
+use Rattle.std.{proofs.Common.subst, specs.Prelude.slice_index, proofs.Math.Nat.mul-le-mul_left}
+use Rattle.std.proofs.lemmas.{List.length-set, Nat.{div-mul-add, mod-mul-add}}
 use Rattle.bench_net.specs.Statement.{Statement}
 use Rattle.patterns.specs.Tests.{blocks}
 use Rattle.flat_circuit.specs.Words.{IsFaultFreeWord}
-use Rattle.faultsim_c.specs.Calls.{observed}
-use Rattle.faultsim_c.proofs.Tables.{next}
+use Rattle.faultsim_c.{specs.Calls.observed, proofs.Tables.next}
 use Rattle.faultsim_c.proofs.observed.responses_in.Goals as goal
 
 pub loop-place-preserved : goal.loop-place-preserved

@@ -1,5 +1,4 @@
-use Rattle.std.proofs.Common.{◌≡◌, ℕ, ◌<◌, ◌/◌, ◌%◌, length}
-use Rattle.std.specs.Prelude.{slice_index}
+use Rattle.std.{proofs.Common.{◌≡◌, ℕ, ◌<◌, ◌/◌, ◌%◌, length}, specs.Prelude.slice_index}
 use Rattle.flat_circuit.specs.Words.{IsFaultFreeWord}
 use Rattle.faultsim_c.specs.Calls.{observed}
 use Rattle.faultsim_c.proofs.observed.responses_in.Given as goal

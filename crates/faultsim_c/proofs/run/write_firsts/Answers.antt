@@ -1,7 +1,5 @@
-use Rattle.std.proofs.Common.{◌≡◌, ◌∙◌, None, ap, arith, get_or}
-use Rattle.std.proofs.lemmas.List.{length-set}
-use Rattle.faultsim_c.specs.Calls.{first_number}
-use Rattle.faultsim_c.proofs.Tables.{next}
+use Rattle.std.proofs.{Common.{◌≡◌, ◌∙◌, None, ap, arith, get_or}, lemmas.List.length-set}
+use Rattle.faultsim_c.{specs.Calls.first_number, proofs.Tables.next}
 use Rattle.faultsim_c.proofs.run.write_firsts.Goals as goal
 
 pub loop-place-preserved : goal.loop-place-preserved

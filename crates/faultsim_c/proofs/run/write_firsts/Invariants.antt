@@ -1,5 +1,4 @@
-use Rattle.std.proofs.Common.{◌≡◌, ℕ, ◌<◌, None, get_or, length}
-use Rattle.std.specs.Prelude.{slice_index}
+use Rattle.std.{proofs.Common.{◌≡◌, ℕ, ◌<◌, None, get_or, length}, specs.Prelude.slice_index}
 use Rattle.faultsim_c.specs.Calls.{first_number}
 use Rattle.faultsim_c.proofs.run.write_firsts.Given as goal
 

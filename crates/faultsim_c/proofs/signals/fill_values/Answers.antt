@@ -1,7 +1,5 @@
-use Rattle.std.proofs.Common.{◌∙◌, List, ap, arith, length}
-use Rattle.std.proofs.lemmas.List.{length-set}
-use Rattle.bench_net.specs.Scan.{names}
-use Rattle.bench_net.specs.Statement.{Statement}
+use Rattle.std.proofs.{Common.{◌∙◌, List, ap, arith, length}, lemmas.List.length-set}
+use Rattle.bench_net.specs.{Scan.names, Statement.Statement}
 use Rattle.flat_circuit.specs.Words.{IsFaultFreeWord}
 use Rattle.faultsim_c.proofs.Tables.{next}
 use Rattle.faultsim_c.proofs.signals.fill_values.Goals as goal

@@ -8,5 +8,4 @@ returns-clause-done c parts is fits =
     let stems = c.stems_of-status.new.stems in
     let same : c.job.result.now ≡ parts = search rules in
     subst (λ (p : Parts). length c.args.stems.now ≡ length p.classes.representative
-    → (c.stems_of-status.result ≡ 0) × AreStemsOf p stems) same
-    c.stems_of-status.ensures.done fits
+    → (c.stems_of-status.result ≡ 0) × AreStemsOf p stems) same c.stems_of-status.ensures.done fits

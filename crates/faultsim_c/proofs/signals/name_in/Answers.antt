@@ -1,7 +1,6 @@
 use Rattle.std.proofs.Common.{rules, ◌≡◌, ◌∙◌, ℕ, List, Some, subst, ap}
 use Rattle.bench_net.specs.Scan.{name_of}
-use Rattle.faultsim_c.specs.Calls.{IsCopied}
-use Rattle.faultsim_c.proofs.Options.{some_inj}
+use Rattle.faultsim_c.{specs.Calls.IsCopied, proofs.Options.some_inj}
 use Rattle.faultsim_c.proofs.signals.name_in.Goals as goal
 
 pub returns-clause-done : goal.returns-clause-done

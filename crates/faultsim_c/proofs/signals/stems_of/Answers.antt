@@ -1,8 +1,6 @@
-use Rattle.std.proofs.Common.{◌∙◌, length, refl, ap, arith}
-use Rattle.std.proofs.lemmas.List.{length-set}
+use Rattle.std.proofs.{Common.{◌∙◌, length, refl, ap, arith}, lemmas.List.length-set}
 use Rattle.fault_model.specs.Collapse.{Collapsed}
-use Rattle.faultsim_c.specs.Calls.{IsStemAt}
-use Rattle.faultsim_c.proofs.Tables.{next}
+use Rattle.faultsim_c.{specs.Calls.IsStemAt, proofs.Tables.next}
 use Rattle.faultsim_c.proofs.signals.stems_of.Goals as goal
 
 pub loop-class-preserved : goal.loop-class-preserved

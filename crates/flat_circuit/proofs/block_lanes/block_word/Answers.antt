@@ -1,10 +1,7 @@
 use Rattle.std.proofs.Common.{◌≡◌, ◌+◌, ◌*◌, ◌/◌, ◌%◌, ◌-◌, ◌^◌, ◌<◌, ◌∙◌, ◌&&◌, Bool, true, false}
-use Rattle.std.proofs.Common.{refl, ap, sym, arith}
-use Rattle.std.specs.Prelude.{◌==◌}
+use Rattle.std.{proofs.Common.{refl, ap, sym, arith}, specs.Prelude.◌==◌, specs.Int.bit_at}
 use Rattle.std.proofs.lemmas.Nat.Bits.{bit_at_cat_high}
-use Rattle.std.specs.Int.{bit_at}
-use Rattle.flat_circuit.specs.Words.{lane}
-use Rattle.flat_circuit.proofs.Lanes.{lane_and, lane_ones}
+use Rattle.flat_circuit.{specs.Words.lane, proofs.Lanes.{lane_and, lane_ones}}
 use Rattle.flat_circuit.proofs.block_lanes.block_word.Goals as goal
 
 and_true : (b : Bool) → (b && true) ≡ b
@@ -15,8 +12,7 @@ pub returns-then-block-eq0 : goal.returns-then-block-eq0
 returns-then-block-eq0 c = λ k j lt place.
     let even = c.if-block-eq0.true in
     let same : k ≡ j = omega (arith, place, even) in
-    lane_and c.args.word c.from.result k
-    ∙ (ap (λ x. lane c.args.word k && lane x k) c.from.ensures
+    lane_and c.args.word c.from.result k ∙ (ap (λ x. lane c.args.word k && lane x k) c.from.ensures
     ∙ (ap (λ b. lane c.args.word k && b) (lane_ones 64 k lt)
     ∙ (and_true (lane c.args.word k) ∙ ap (lane c.args.word) same)))
 
@@ -30,5 +26,4 @@ returns-else-block-eq0 c = λ k j lt place.
     let few : w % 2 ^ 64 < 2 ^ 64 = omega arith in
     ap (λ x. x == 1) (ap (bit_at (w / 2 ^ 64)) (sym back)
     ∙ (sym (bit_at_cat_high (w / 2 ^ 64) 64 (w % 2 ^ 64) (64 + k) few (omega arith))
-    ∙ ap (λ x. bit_at x (64 + k)) parts))
-    ∙ ap (lane w) up
+    ∙ ap (λ x. bit_at x (64 + k)) parts)) ∙ ap (lane w) up

@@ -1,7 +1,5 @@
 use Rattle.std.proofs.Common.{◌≡◌, ◌+◌, ◌*◌, ◌%◌, ◌-◌, ◌^◌, ◌<◌, ◌∙◌, ℕ, refl, ap, arith}
-use Rattle.std.specs.Prelude.{bit_or}
-use Rattle.std.specs.Int.{bit_at}
-use Rattle.std.proofs.lemmas.Grind.{or_after_shift}
+use Rattle.std.{specs.Prelude.bit_or, specs.Int.bit_at, proofs.lemmas.Grind.or_after_shift}
 use Rattle.std.proofs.lemmas.Nat.Bits.{bit_at_cat_low, bit_at_cat_high}
 use Rattle.flat_circuit.proofs.block_lanes.group_word.Goals as goal
 

@@ -1,11 +1,7 @@
 use Rattle.std.proofs.Common.{◌≡◌, ◌<◌, ◌≤◌, ◌^◌, ◌*◌, ◌%◌, ◌-◌, ℕ, sym, ◌∙◌, ap, arith, inl, inr}
-use Rattle.std.proofs.Common.{◌⊎◌}
-use Rattle.std.specs.Prelude.{nat_lt, ◌==◌}
-use Rattle.std.proofs.lemmas.Bool.{cases_lt, lt-ltb, le-ltb}
-use Rattle.std.proofs.lemmas.Nat.{pow_below}
-use Rattle.std.proofs.lemmas.Nat.Bits.{bit_at_ones_above}
-use Rattle.flat_circuit.specs.Words.{lane}
-use Rattle.flat_circuit.proofs.Lanes.{lane_ones}
+use Rattle.std.{proofs.Common.◌⊎◌, specs.Prelude.{nat_lt, ◌==◌}, proofs.lemmas.Nat.pow_below}
+use Rattle.std.proofs.lemmas.{Bool.{cases_lt, lt-ltb, le-ltb}, Nat.Bits.bit_at_ones_above}
+use Rattle.flat_circuit.{specs.Words.lane, proofs.Lanes.lane_ones}
 use Rattle.flat_circuit.proofs.block_lanes.lanes_below.Goals as goal
 
 masked : (size k : ℕ) → lane (2 ^ size - 1) k ≡ nat_lt k size

@@ -1,6 +1,4 @@
-use Rattle.std.proofs.Common.{ap, arith}
-use Rattle.std.specs.Prelude.{◌==◌}
-use Rattle.std.specs.Int.{w64}
+use Rattle.std.{proofs.Common.{ap, arith}, specs.Prelude.◌==◌, specs.Int.w64}
 use Rattle.std.proofs.lemmas.Nat.Bits.{bit_at-trailing_zeros}
 use Rattle.flat_circuit.proofs.block_lanes.least_lane.Goals as goal
 

@@ -1,7 +1,5 @@
-use Rattle.std.specs.Prelude.{map}
-use Rattle.std.proofs.lemmas.Result.{IfOk-weaker}
-use Rattle.flat_circuit.specs.GroupRows.{AreRowsFrom, AreFaultFree}
-use Rattle.flat_circuit.proofs.Rows.{from_first}
+use Rattle.std.{specs.Prelude.map, proofs.lemmas.Result.IfOk-weaker}
+use Rattle.flat_circuit.{specs.GroupRows.{AreRowsFrom, AreFaultFree}, proofs.Rows.from_first}
 use Rattle.flat_circuit.proofs.fault_free.fault_free_rows.Goals as goal
 
 pub returns-clause-rows : goal.returns-clause-rows

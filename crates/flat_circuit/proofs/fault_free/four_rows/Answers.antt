@@ -1,10 +1,7 @@
 use Rattle.std.proofs.Common.{◌≡◌, ◌∙◌, ◌∷◌, [], ℕ, List, ap, arith, length, subst, sym, Global}
-use Rattle.std.proofs.Common.{Vec}
-use Rattle.std.specs.Prelude.{map, vec_len}
-use Rattle.std.proofs.lemmas.List.{with_items_is}
+use Rattle.std.{proofs.Common.Vec, specs.Prelude.{map, vec_len}, proofs.lemmas.List.with_items_is}
 use Rattle.bench_net.specs.Scan.{names}
-use Rattle.flat_circuit.specs.GroupRows.{AreRowsFrom}
-use Rattle.flat_circuit.proofs.ArrangedSignals.{sources_there}
+use Rattle.flat_circuit.{specs.GroupRows.AreRowsFrom, proofs.ArrangedSignals.sources_there}
 use Rattle.flat_circuit.proofs.FourWords.{four_from, pushed_row, of_four}
 use Rattle.flat_circuit.proofs.fault_free.four_rows.Goals as goal
 

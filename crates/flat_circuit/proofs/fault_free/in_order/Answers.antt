@@ -1,9 +1,6 @@
-use Rattle.std.proofs.Common.{◌<◌, ap, arith, get_or, rules, subst, suc, sym}
-use Rattle.std.proofs.Common.{◌≡◌}
-use Rattle.std.specs.Prelude.{All}
-use Rattle.std.specs.Vec.Iter.{into_iter_items, into_iter_len}
-use Rattle.std.proofs.lemmas.List.Elements.{All-append}
-use Rattle.std.proofs.lemmas.List.Sorted.{All-permutation}
+use Rattle.std.proofs.Common.{◌<◌, ap, arith, get_or, rules, subst, suc, sym, ◌≡◌}
+use Rattle.std.specs.{Prelude.All, Vec.Iter.{into_iter_items, into_iter_len}}
+use Rattle.std.proofs.lemmas.List.{Elements.All-append, Sorted.All-permutation}
 use Rattle.flat_circuit.specs.GroupRows.{AreOwnRows, HasRows}
 use Rattle.flat_circuit.proofs.fault_free.in_order.Goals as goal
 
@@ -32,5 +29,4 @@ loop-part-preserved c =
 pub returns : goal.returns
 returns c =
     let P = AreOwnRows c.args.circuit.now.arranged c.args.tests.now.tests in
-    All-permutation P _ _ c.sort_unstable_by_key.ensures.permutation
-    c.loop-part.invariant.all
+    All-permutation P _ _ c.sort_unstable_by_key.ensures.permutation c.loop-part.invariant.all

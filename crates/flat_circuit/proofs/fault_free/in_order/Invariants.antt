@@ -1,5 +1,4 @@
-use Rattle.std.proofs.Common.{◌<◌, ℕ, get_or}
-use Rattle.std.specs.Prelude.{All}
+use Rattle.std.{proofs.Common.{◌<◌, ℕ, get_or}, specs.Prelude.All}
 use Rattle.std.specs.Vec.Iter.{into_iter_items, into_iter_len}
 use Rattle.flat_circuit.specs.GroupRows.{AreOwnRows, HasRows}
 use Rattle.flat_circuit.proofs.fault_free.in_order.Given as goal

@@ -1,6 +1,5 @@
 use Rattle.std.proofs.Common.{◌≡◌, ◌<◌, ◌∙◌, ap, arith, get_or, Global, length, rules, subst, sym}
-use Rattle.std.proofs.Common.{suc, ℕ, Vec}
-use Rattle.std.specs.Prelude.{map}
+use Rattle.std.{proofs.Common.{suc, ℕ, Vec}, specs.Prelude.map}
 use Rattle.std.specs.Vec.Iter.{into_iter_items, into_iter_len}
 use Rattle.std.proofs.lemmas.List.{length-map, map-append}
 use Rattle.flat_circuit.specs.GroupRows.{AreOwnRows, AreRowsFrom}
@@ -55,14 +54,8 @@ returns-clause-rows c =
     let all = c.append-2.new.self.items in
     let whole : map items all ≡ _ = ap (map items) c.in_ok-append-2.ensures.items
     ∙ map-append items c.loop-part.all.items c.in_ok-rest.rest.items in
-    from_first circuit tests (map items all)
-    (subst (AreRowsFrom circuit tests 0) (sym whole)
+    from_first circuit tests (map items all) (subst (AreRowsFrom circuit tests 0) (sym whole)
     (rows_append circuit tests before (map items c.in_ok-rest.rest.items) c.len-2.result
     c.loop-part.invariant.rows
-    (omega (
-      arith,
-      c.len-2.ensures,
-      c.loop-part.all.ok.0,
-      length-map c.loop-part.all.items items,
-    ))
+    (omega (arith, c.len-2.ensures, c.loop-part.all.ok.0, length-map c.loop-part.all.items items))
     c.in_ok-rest.ensures.rows))

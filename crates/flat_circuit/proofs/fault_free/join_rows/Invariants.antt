@@ -1,5 +1,4 @@
-use Rattle.std.proofs.Common.{◌<◌, ℕ, get_or}
-use Rattle.std.specs.Prelude.{map}
+use Rattle.std.{proofs.Common.{◌<◌, ℕ, get_or}, specs.Prelude.map}
 use Rattle.std.specs.Vec.Iter.{into_iter_items, into_iter_len}
 use Rattle.flat_circuit.specs.GroupRows.{AreOwnRows, AreRowsFrom}
 use Rattle.flat_circuit.proofs.fault_free.join_rows.Given as goal

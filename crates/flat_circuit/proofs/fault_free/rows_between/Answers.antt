@@ -1,9 +1,6 @@
-use Rattle.std.proofs.Common.{◌∙◌, ◌+◌, ◌-◌, ◌*◌, ◌/◌, ℕ, ap, arith, Global, length}
-use Rattle.std.proofs.Common.{length-append, subst, sym, Vec}
-use Rattle.std.specs.Prelude.{map}
-use Rattle.std.proofs.lemmas.List.{map-append}
-use Rattle.flat_circuit.specs.GroupRows.{AreRowsFrom}
-use Rattle.flat_circuit.proofs.Rows.{rows_joined}
+use Rattle.std.proofs.Common.{◌∙◌, ◌+◌, ◌-◌, ◌*◌, ◌/◌, ℕ, ap, arith, Global, length, length-append}
+use Rattle.std.{proofs.Common.{subst, sym, Vec}, specs.Prelude.map, proofs.lemmas.List.map-append}
+use Rattle.flat_circuit.{specs.GroupRows.AreRowsFrom, proofs.Rows.rows_joined}
 use Rattle.flat_circuit.proofs.fault_free.rows_between.Goals as goal
 
 pub loop-four-preserved : goal.loop-four-preserved

@@ -1,10 +1,8 @@
 use Rattle.std.proofs.Common.{◌≡◌, ◌∙◌, ◌∷◌, ◌++◌, [], ℕ, ap, subst, sym, arith, length, Vec}
-use Rattle.std.proofs.Common.{Global}
-use Rattle.std.specs.Prelude.{map, vec_len}
+use Rattle.std.{proofs.Common.Global, specs.Prelude.{map, vec_len}}
 use Rattle.std.proofs.lemmas.List.{map-append, length_push, with_items_is}
 use Rattle.bench_net.specs.Scan.{names}
-use Rattle.flat_circuit.specs.GroupRows.{AreRowsFrom}
-use Rattle.flat_circuit.proofs.ArrangedSignals.{sources_there}
+use Rattle.flat_circuit.{specs.GroupRows.AreRowsFrom, proofs.ArrangedSignals.sources_there}
 use Rattle.flat_circuit.proofs.Rows.{rows_more}
 use Rattle.flat_circuit.proofs.fault_free.single_rows.Goals as goal
 
@@ -44,7 +42,6 @@ loop-group-preserved c =
           (sym pushed)
           (rows_more c.args.circuit.now.arranged c.args.tests.now.tests c.args.first before words
           c.loop-group.group c.loop-group.invariant.count
-          (omega (arith, c.loop-group-test.true, c.requires.end))
-          c.loop-group.invariant.rows room
+          (omega (arith, c.loop-group-test.true, c.requires.end)) c.loop-group.invariant.rows room
           c.evaluate.ensures.words);
     }

@@ -1,6 +1,4 @@
-use Rattle.std.proofs.Common.{subst, sym}
-use Rattle.std.specs.Prelude.{All}
-use Rattle.std.proofs.lemmas.List.Elements.{All-push}
+use Rattle.std.{proofs.Common.{subst, sym}, specs.Prelude.All, proofs.lemmas.List.Elements.All-push}
 use Rattle.flat_circuit.specs.GroupRows.{AreOwnRows}
 use Rattle.flat_circuit.proofs.fault_free.take_groups.Goals as goal
 

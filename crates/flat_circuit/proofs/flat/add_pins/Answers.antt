@@ -1,13 +1,10 @@
 use Rattle.std.proofs.Common.{◌≡◌, ◌<◌, ◌∙◌, ◌++◌, [], ap, arith, refl, subst, sym, length, ℕ}
 use Rattle.std.specs.Prelude.{Some, map, option_map, slice_index_or}
-use Rattle.std.proofs.lemmas.List.{append-nil}
-use Rattle.std.proofs.lemmas.Option.{get_or_from_slice_get}
+use Rattle.std.proofs.lemmas.{List.append-nil, Option.get_or_from_slice_get}
 use Rattle.bench_net.specs.Scan.{gate_of, names}
-use Rattle.list_lemmas.proofs.Members.{Among}
-use Rattle.list_lemmas.proofs.Places.{place_within, placed}
+use Rattle.list_lemmas.proofs.{Members.Among, Places.{place_within, placed}}
 use Rattle.fault_model.specs.Reordered.{in_order, moved_gate, place}
-use Rattle.flat_circuit.specs.Arranged.{IsArranged}
-use Rattle.flat_circuit.proofs.Equations.{pins_within}
+use Rattle.flat_circuit.{specs.Arranged.IsArranged, proofs.Equations.pins_within}
 use Rattle.flat_circuit.proofs.ArrangedSignals.{places_of_all, signals_there}
 use Rattle.flat_circuit.proofs.flat.add_pins.Goals as goal
 
@@ -39,8 +36,7 @@ returns-in_ok-push_places-in-Some c =
     let same = places_of_all circuit there well arranged places pins c.requires.placed.placed
     within in
     let is : Some (kind, more) ≡ gate_of there (place circuit there c.args.signal) =
-    ap (λ xs. Some (kind, xs)) same
-    ∙ (ap (option_map (moved_gate circuit there)) c.in-Some.ensures
+    ap (λ xs. Some (kind, xs)) same ∙ (ap (option_map (moved_gate circuit there)) c.in-Some.ensures
     ∙ sym ((signals_there circuit there well arranged).gates c.args.signal)) in (
       more,
       c.in_ok-push_places-in-Some.ensures

@@ -1,24 +1,21 @@
 use Rattle.std.proofs.Common.{◌≡◌, ◌≢◌, ℕ, ◌∙◌, [], ◌∷◌, ◌++◌, ap, arith, refl, sym, subst, ◌+◌}
-use Rattle.std.proofs.lemmas.Bool.{false≢true}
-use Rattle.std.specs.Prelude.{map, slice_index_or}
+use Rattle.std.{proofs.lemmas.Bool.false≢true, specs.Prelude.{map, slice_index_or}}
 use Rattle.std.proofs.lemmas.List.{append_assoc, append-nil, map-append}
 use Rattle.bench_net.specs.declared.Sink.TheVariants as sink
 use Rattle.bench_net.specs.Scan.{names}
 use Rattle.list_lemmas.proofs.Places.{within_place}
 use Rattle.fault_model.specs.Reordered.{in_order, place}
 use Rattle.flat_circuit.proofs.Flats.{gathered_none, gathered_passed, gathered_dead, gathered_more}
-use Rattle.flat_circuit.proofs.Flats.{gathered_all}
-use Rattle.flat_circuit.proofs.ArrangedRows.{readers_moved}
-use Rattle.flat_circuit.proofs.ArrangedSignals.{reordered}
-use Rattle.flat_circuit.proofs.Readers.{reader_within}
+use Rattle.flat_circuit.proofs.{Flats.gathered_all, ArrangedRows.readers_moved}
+use Rattle.flat_circuit.proofs.{ArrangedSignals.reordered, Readers.reader_within}
 use Rattle.flat_circuit.proofs.ReorderedReaders.{same_readers}
 use Rattle.flat_circuit.proofs.ObservedSinks.{HasObserver, observer_none, sink_gate}
 use Rattle.flat_circuit.proofs.ObservedSinks.{observer_passed, observer_found, observer_all}
-use Rattle.flat_circuit.proofs.flat.add_readers.Goals as goal
 use Rattle.flat_circuit.proofs.flat.add_readers.Goals.{
   in-Pin+else-not-placed-gate+in_ok-push-in-Pin,
 }
 use Rattle.flat_circuit.proofs.flat.add_readers.Goals.{in-Data, in-Out}
+use Rattle.flat_circuit.proofs.flat.add_readers.Goals as goal
 
 pub loop-sink-init : goal.loop-sink-init
 loop-sink-init c = record {
@@ -67,8 +64,7 @@ loop-sink-preserved-then-not-placed-gate c =
       is = c.loop-sink.invariant.is;
       gathered = gathered_dead circuit well s n.0 n.1 items are i c.loop-sink.invariant.more
           c.loop-sink.invariant.gathered gate c.in-Pin.pin (sink.Pin 0 0) c.loop-sink-test.true
-          c.in-Pin.is
-          (λ live. false≢true (sym c.if-not-placed-gate.true
+          c.in-Pin.is (λ live. false≢true (sym c.if-not-placed-gate.true
           ∙ (c.requires.placed.alive gate (reader_within circuit gate s reads)).1 live));
       observer = observer_passed circuit well s n.0 n.1 items are i gate c.in-Pin.pin
           (sink.Pin 0 0) c.loop-sink.observed c.loop-sink-test.true c.in-Pin.is
@@ -100,8 +96,7 @@ loop-sink-preserved c =
             is = ap (λ r. r.items) w.readers-is ∙ (w.in_ok-push-in-Pin.ensures.items
                 ∙ (ap (λ l. l ++ moved ∷ []) c.loop-sink.invariant.is
                 ∙ (append_assoc c.args.readers.now.items (map (place circuit there) more)
-                (moved ∷ [])
-                ∙ ap (λ l. c.args.readers.now.items ++ l)
+                (moved ∷ []) ∙ ap (λ l. c.args.readers.now.items ++ l)
                 (ap (λ r. map (place circuit there) more ++ r ∷ []) placed
                 ∙ sym (map-append (place circuit there) more (gate ∷ []))))));
             gathered = gathered_more circuit well s n.0 n.1 items are i more before gate
@@ -164,10 +159,8 @@ returns-clause-observed c =
     let there = in_order circuit order in
     let n = within_place (names circuit) c.args.signal c.requires.signal in
     let own = observer_all circuit well c.args.signal n.0 n.1
-    c.sinks_of-sink-items.result.now (c.sinks_of-sink-items.ensures n.0 n.1)
-    c.loop-sink.sink-index
+    c.sinks_of-sink-items.result.now (c.sinks_of-sink-items.ensures n.0 n.1) c.loop-sink.sink-index
     c.loop-sink.observed c.loop-sink-test.false c.loop-sink.invariant.observer in
     let moved = (same_readers circuit there well
     (reordered circuit there well (order, c.requires.placed.ordered, refl))).observed c.args.signal
-    in
-    (λ e. moved.0 (own.0 e), λ o. own.1 (moved.1 o))
+    in (λ e. moved.0 (own.0 e), λ o. own.1 (moved.1 o))

@@ -1,10 +1,8 @@
 use Rattle.std.proofs.Common.{◌≡◌, arith, length, refl, subst}
 use Rattle.bench_net.specs.Scan.{names}
 use Rattle.fault_model.specs.Reordered.{in_order}
-use Rattle.flat_circuit.specs.Arranged.{ArePlaces, IsArranged}
-use Rattle.flat_circuit.specs.Flat.{AreListsOf}
-use Rattle.flat_circuit.proofs.ArrangedSignals.{count_there}
-use Rattle.flat_circuit.proofs.Flats.{flat_of}
+use Rattle.flat_circuit.specs.{Arranged.{ArePlaces, IsArranged}, Flat.AreListsOf}
+use Rattle.flat_circuit.proofs.{ArrangedSignals.count_there, Flats.flat_of}
 use Rattle.flat_circuit.proofs.flat.flat_rows.Goals as goal
 
 pub returns : goal.returns

@@ -1,26 +1,21 @@
 use Rattle.std.proofs.Common.{◌≡◌, ◌+◌, ◌++◌, ◌∷◌, [], ap, arith, refl, subst, sym, length}
-use Rattle.std.specs.Prelude.{slice_index_or}
-use Rattle.std.proofs.lemmas.List.{length_push}
+use Rattle.std.{specs.Prelude.slice_index_or, proofs.lemmas.List.length_push}
 use Rattle.fault_model.specs.Reordered.{in_order, place}
 use Rattle.flat_circuit.specs.Flat.{AreRowsAt, AreStandingsAt, IsRow, IsStanding}
-use Rattle.flat_circuit.specs.Arranged.{IsArranged}
-use Rattle.flat_circuit.proofs.Flats.{rows_with, standings_with}
-use Rattle.flat_circuit.proofs.FlowOrder.{flow_within}
-use Rattle.flat_circuit.proofs.ArrangedSignals.{at_order}
+use Rattle.flat_circuit.{specs.Arranged.IsArranged, proofs.Flats.{rows_with, standings_with}}
+use Rattle.flat_circuit.proofs.{FlowOrder.flow_within, ArrangedSignals.at_order}
 use Rattle.flat_circuit.proofs.flat.lists_between.Goals as goal
 
 pub add_row-requires-clause-signal : goal.add_row-requires-clause-signal
 add_row-requires-clause-signal c =
     let lt = c.loop-place-test.true in
-    flow_within c.args.circuit.now c.args.order.now c.loop-place.place
-    c.requires.placed.ordered
+    flow_within c.args.circuit.now c.args.order.now c.loop-place.place c.requires.placed.ordered
     (omega (arith, lt, c.requires.end))
 
 pub standing_of-requires-clause-signal : goal.standing_of-requires-clause-signal
 standing_of-requires-clause-signal c =
     let lt = c.loop-place-test.true in
-    flow_within c.args.circuit.now c.args.order.now c.loop-place.place
-    c.requires.placed.ordered
+    flow_within c.args.circuit.now c.args.order.now c.loop-place.place c.requires.placed.ordered
     (omega (arith, lt, c.requires.end))
 
 pub loop-place-preserved : goal.loop-place-preserved

@@ -9,6 +9,5 @@ invariant-loop-place l = record {
   numbered : AreRowsAt (in_order l.circuit l.order) l.from l.pins.items
       l.readers.items l.rows.items;
   stand : l.from + length l.standings.items ≡ l.place;
-  standing : AreStandingsAt (in_order l.circuit l.order) l.from
-      l.standings.items;
+  standing : AreStandingsAt (in_order l.circuit l.order) l.from l.standings.items;
 }

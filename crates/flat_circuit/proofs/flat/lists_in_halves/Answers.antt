@@ -1,5 +1,4 @@
-use Rattle.std.proofs.Common.{◌/◌, rules, subst}
-use Rattle.std.specs.Prelude.{IfOk}
+use Rattle.std.{proofs.Common.{◌/◌, rules, subst}, specs.Prelude.IfOk}
 use Rattle.fault_model.specs.Reordered.{in_order}
 use Rattle.flat_circuit.specs.Flat.{AreListsOf}
 use Rattle.flat_circuit.proofs.flat.lists_in_halves.Goals as goal

@@ -1,5 +1,4 @@
-use Rattle.std.proofs.Common.{◌-◌, ◌/◌, length, rules, subst}
-use Rattle.std.specs.Prelude.{IfOk}
+use Rattle.std.{proofs.Common.{◌-◌, ◌/◌, length, rules, subst}, specs.Prelude.IfOk}
 use Rattle.fault_model.specs.Reordered.{in_order}
 use Rattle.flat_circuit.specs.Flat.{AreListsOf}
 use Rattle.flat_circuit.proofs.flat.lists_in_threads.Goals as goal

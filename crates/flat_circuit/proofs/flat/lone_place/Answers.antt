@@ -1,8 +1,6 @@
-use Rattle.std.proofs.Common.{◌∙◌, ap, arith, refl, sym}
-use Rattle.std.specs.Prelude.{Some, option_map}
+use Rattle.std.{proofs.Common.{◌∙◌, ap, arith, refl, sym}, specs.Prelude.{Some, option_map}}
 use Rattle.fault_model.specs.Reordered.{in_order, place}
-use Rattle.flat_circuit.proofs.ArrangedSignals.{reordered}
-use Rattle.flat_circuit.proofs.ReorderedReaders.{same_readers}
+use Rattle.flat_circuit.proofs.{ArrangedSignals.reordered, ReorderedReaders.same_readers}
 use Rattle.flat_circuit.proofs.Stems.{lone_within}
 use Rattle.flat_circuit.proofs.flat.lone_place.Goals as goal
 
@@ -30,6 +28,5 @@ returns-in-None c =
     let well = c.requires.placed.circuit.well_formed in
     let order = c.args.placed.order.now in
     let there = in_order circuit order in
-    ap (option_map (place circuit there)) c.in-None.ensures
-    ∙ sym ((same_readers circuit there well
+    ap (option_map (place circuit there)) c.in-None.ensures ∙ sym ((same_readers circuit there well
     (reordered circuit there well (order, c.requires.placed.ordered, refl))).lone c.args.signal)

@@ -1,5 +1,4 @@
-use Rattle.std.proofs.Common.{◌∙◌, ◌∷◌, ◌++◌, ◌+◌, [], ap, append_assoc}
-use Rattle.std.proofs.lemmas.List.{length_push}
+use Rattle.std.proofs.{Common.{◌∙◌, ◌∷◌, ◌++◌, ◌+◌, [], ap, append_assoc}, lemmas.List.length_push}
 use Rattle.flat_circuit.proofs.Flats.{moved_more, read_at}
 use Rattle.flat_circuit.proofs.flat.push_moved.Goals as goal
 
@@ -9,8 +8,7 @@ loop-row-preserved c =
     let row = c.in_ok-after.field-0 in
     record {
       moved = was.moved ++ row ∷ [];
-      is = c.in_ok-push.ensures.items
-          ∙ (ap (λ l. l ++ row ∷ []) was.is
+      is = c.in_ok-push.ensures.items ∙ (ap (λ l. l ++ row ∷ []) was.is
           ∙ append_assoc c.args.rows.now.items was.moved (row ∷ []));
       count = length_push was.moved row ∙ ap (λ n. n + 1) was.count;
       each = moved_more c.in_ok-pins.pins c.in_ok-readers.readers c.args.next.now was.moved

@@ -1,6 +1,5 @@
 use Rattle.std.proofs.Common.{◌≡◌, ◌++◌, ℕ, List, length, Some, slice_get}
-use Rattle.flat_circuit.specs.declared.flat.SignalRow.{SignalRow}
-use Rattle.flat_circuit.specs.Flat.{IsMoved}
+use Rattle.flat_circuit.specs.{declared.flat.SignalRow.SignalRow, Flat.IsMoved}
 use Rattle.flat_circuit.proofs.flat.push_moved.Given as goal
 
 abbrev pub invariant-loop-row : goal.invariant-loop-row

@@ -1,5 +1,4 @@
-use Rattle.std.proofs.Common.{◌≡◌, ◌++◌, map, take}
-use Rattle.std.specs.Prelude.{slice_index_or}
+use Rattle.std.{proofs.Common.{◌≡◌, ◌++◌, map, take}, specs.Prelude.slice_index_or}
 use Rattle.flat_circuit.proofs.flat.push_places.Given as goal
 
 abbrev pub invariant-loop-signal : goal.invariant-loop-signal

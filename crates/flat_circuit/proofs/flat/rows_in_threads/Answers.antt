@@ -1,10 +1,8 @@
 use Rattle.std.proofs.Common.{◌≡◌, arith, length, refl, subst}
 use Rattle.bench_net.specs.Scan.{names}
 use Rattle.fault_model.specs.Reordered.{in_order}
-use Rattle.flat_circuit.specs.Arranged.{ArePlaces, IsArranged}
-use Rattle.flat_circuit.specs.Flat.{AreListsOf}
-use Rattle.flat_circuit.proofs.ArrangedSignals.{count_there}
-use Rattle.flat_circuit.proofs.Flats.{flat_of}
+use Rattle.flat_circuit.specs.{Arranged.{ArePlaces, IsArranged}, Flat.AreListsOf}
+use Rattle.flat_circuit.proofs.{ArrangedSignals.count_there, Flats.flat_of}
 use Rattle.flat_circuit.proofs.flat.rows_in_threads.Goals as goal
 
 pub returns : goal.returns
@@ -17,11 +15,7 @@ returns g c =
     let count = count_there circuit there c.signals-signals.ensures.circuit.well_formed arranged in
     let all = subst (λ o. AreListsOf (in_order circuit o) 0 (length o) c.in_ok-lists.lists)
     c.deref.ensures.value c.in_ok-lists.ensures in
-    let end : length order ≡ length (names there) = omega (
-      arith,
-      ordered.signals.count,
-      count,
-    ) in
+    let end : length order ≡ length (names there) = omega (arith, ordered.signals.count, count) in
     record {
       ordered = ordered;
       room = c.in_ok-places.ensures.count;

@@ -1,7 +1,6 @@
 use Rattle.std.proofs.Common.{refl}
 use Rattle.fault_model.specs.Reordered.{in_order}
-use Rattle.flat_circuit.specs.Arranged.{IsArranged}
-use Rattle.flat_circuit.proofs.ArrangedSignals.{reordered}
+use Rattle.flat_circuit.{specs.Arranged.IsArranged, proofs.ArrangedSignals.reordered}
 use Rattle.flat_circuit.proofs.ReorderedReaders.{same_readers}
 use Rattle.flat_circuit.proofs.flat.standing_of.Goals as goal
 
@@ -15,7 +14,4 @@ returns c =
     let s = c.args.signal in
     let own = c.requires.placed.alive s c.requires.signal in
     let live = (same_readers circuit there well (reordered circuit there well arranged)).live s in
-    record {
-      lone = c.lone_place.ensures;
-      live = (λ on. live.0 (own.0 on), λ l. own.1 (live.1 l));
-    }
+    record { lone = c.lone_place.ensures; live = (λ on. live.0 (own.0 on), λ l. own.1 (live.1 l)) }

@@ -1,13 +1,10 @@
 use Rattle.std.proofs.Common.{◌<◌, ◌≤◌, ◌+◌, ◌∙◌, ℕ, List, arith, length, subst}
-use Rattle.std.specs.Prelude.{None}
-use Rattle.std.proofs.lemmas.List.{length-set}
+use Rattle.std.{specs.Prelude.None, proofs.lemmas.List.length-set}
 use Rattle.bench_net.specs.Scan.{names}
-use Rattle.patterns.specs.Least.{below}
-use Rattle.patterns.proofs.Public.{length-below}
+use Rattle.patterns.{specs.Least.below, proofs.Public.length-below}
 use Rattle.wide_words.specs.Layouts.{one_of}
-use Rattle.flat_circuit.proofs.ArrangedSignals.{natural_order}
+use Rattle.flat_circuit.proofs.{ArrangedSignals.natural_order, FourWords.{set_each, of_four}}
 use Rattle.flat_circuit.proofs.FlowPass.{ArePassed, natural_more, passed_all}
-use Rattle.flat_circuit.proofs.FourWords.{set_each, of_four}
 use Rattle.flat_circuit.proofs.four_words.evaluate_four.Goals as goal
 
 pub loop-signal-preserved : goal.loop-signal-preserved
@@ -36,8 +33,7 @@ loop-signal-preserved c =
       passed = λ slot low. subst (λ row. ArePassed circuit tests (c.args.group + slot) None
           (below (length (names circuit))) row (signal + 1))
           (set_each rows.first rows.second rows.third rows.fourth signal words.first words.second
-          words.third words.fourth slot)
-          (natural_more circuit tests (c.args.group + slot) None
+          words.third words.fourth slot) (natural_more circuit tests (c.args.group + slot) None
           (one_of rows.first rows.second rows.third rows.fourth slot) signal
           (one_of words.first words.second words.third words.fourth slot)
           c.requires.circuit.well_formed ordered (room slot low) lt (was.passed slot low)

@@ -1,5 +1,4 @@
-use Rattle.std.proofs.Common.{◌≡◌, ◌+◌, ◌<◌, ℕ, length}
-use Rattle.std.specs.Prelude.{None}
+use Rattle.std.{proofs.Common.{◌≡◌, ◌+◌, ◌<◌, ℕ, length}, specs.Prelude.None}
 use Rattle.bench_net.specs.Scan.{names}
 use Rattle.patterns.specs.Least.{below}
 use Rattle.wide_words.specs.Layouts.{one_of}

@@ -1,6 +1,5 @@
 use Rattle.std.proofs.Common.{◌≡◌, ◌+◌, ℕ, arith, subst}
-use Rattle.flat_circuit.specs.Words.{IsGroupWord}
-use Rattle.flat_circuit.proofs.FourWords.{of_four}
+use Rattle.flat_circuit.{specs.Words.IsGroupWord, proofs.FourWords.of_four}
 use Rattle.flat_circuit.proofs.four_words.source_words.Goals as goal
 
 pub returns : goal.returns

@@ -1,12 +1,8 @@
 use Rattle.std.proofs.Common.{◌≡◌, ◌<◌, ◌-◌, ◌+◌, ◌∙◌, ap, arith, length}
 use Rattle.std.specs.Prelude.{slice_index_or}
 use Rattle.wide_words.specs.Wide.{number}
-use Rattle.flat_circuit.specs.GateForms.{inverted_if}
-use Rattle.flat_circuit.specs.SlotWords.{copied_bit}
-use Rattle.flat_circuit.specs.Words.{lane}
-use Rattle.flat_circuit.proofs.FourWords.{turned_bit_of}
-use Rattle.flat_circuit.proofs.GateLanes.{at_last}
-use Rattle.flat_circuit.proofs.Lanes.{lane_and}
+use Rattle.flat_circuit.specs.{GateForms.inverted_if, SlotWords.copied_bit, Words.lane}
+use Rattle.flat_circuit.proofs.{FourWords.turned_bit_of, GateLanes.at_last, Lanes.lane_and}
 use Rattle.flat_circuit.proofs.PinFolds.{all_first, all_last, all_more}
 use Rattle.flat_circuit.proofs.four_words.wide_all_of.Goals as goal
 
@@ -52,8 +48,7 @@ returns g c = λ k lt.
     let turn = c.args.gate.form.inverts_inputs in
     let count : length pins ≡ length pins - 1 + 1 = omega (arith, c.requires.some) in
     let started : 0 < c.loop-place.place = omega (arith, c.loop-place.auto.place) in
-    ap (λ n. lane n k) c.and.ensures
-    ∙ (lane_and (number c.loop-place.all) (number c.xor-2.result) k
+    ap (λ n. lane n k) c.and.ensures ∙ (lane_and (number c.loop-place.all) (number c.xor-2.result) k
     ∙ all_last bit pins (λ b. inverted_if turn b) c.loop-place.place (length pins - 1)
     c.args.gate.last (lane (number c.loop-place.all) k) (lane (number c.xor-2.result) k) count
     (at_last (length pins) c.loop-place.place started c.loop-place.invariant.within

@@ -1,8 +1,6 @@
 use Rattle.std.proofs.Common.{◌≡◌, ◌<◌, ◌-◌, ◌+◌, ◌∙◌, ap, arith, length, ◌≤◌}
 use Rattle.wide_words.specs.Wide.{number}
-use Rattle.flat_circuit.specs.SlotWords.{copied_bit}
-use Rattle.flat_circuit.specs.Words.{lane}
-use Rattle.flat_circuit.proofs.Lanes.{lane_xor}
+use Rattle.flat_circuit.{specs.SlotWords.copied_bit, specs.Words.lane, proofs.Lanes.lane_xor}
 use Rattle.flat_circuit.proofs.PinFolds.{odd_last, odd_more}
 use Rattle.flat_circuit.proofs.four_words.wide_odd_of.Goals as goal
 
@@ -32,8 +30,7 @@ returns g c = λ k lt.
       c.loop-place-test.false,
       c.loop-place.auto.place-end some,
     ) in
-    ap (λ n. lane n k) c.xor.ensures
-    ∙ (lane_xor (number c.loop-place.odd) (number c.of.result) k
+    ap (λ n. lane n k) c.xor.ensures ∙ (lane_xor (number c.loop-place.odd) (number c.of.result) k
     ∙ odd_last (copied_bit g.C.Copies.layout (g.C.Copies.rows c.args.copies) k) pins
     c.loop-place.place (length pins - 1) c.args.gate.last (lane (number c.loop-place.odd) k)
     (lane (number c.of.result) k) count stop (c.loop-place.invariant.odd k lt)

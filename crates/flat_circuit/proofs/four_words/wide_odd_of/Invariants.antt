@@ -1,8 +1,7 @@
 use Rattle.std.proofs.Common.{◌≡◌, ◌<◌, ◌≤◌, ℕ, length, map, take}
 use Rattle.fault_model.specs.Solution.{is_odd}
 use Rattle.wide_words.specs.Wide.{number}
-use Rattle.flat_circuit.specs.SlotWords.{copied_bit}
-use Rattle.flat_circuit.specs.Words.{lane}
+use Rattle.flat_circuit.specs.{SlotWords.copied_bit, Words.lane}
 use Rattle.flat_circuit.proofs.four_words.wide_odd_of.Given as goal
 
 abbrev pub invariant-loop-place : goal.invariant-loop-place

@@ -1,14 +1,10 @@
-use Rattle.std.proofs.Common.{◌≡◌, ◌∙◌, ap, sym}
-use Rattle.std.specs.Prelude.{Some}
-use Rattle.bench_net.specs.Scan.{names, signal}
-use Rattle.bench_net.proofs.Public.{signal-name_of}
-use Rattle.list_lemmas.proofs.Members.{contained}
-use Rattle.list_lemmas.proofs.Places.{at_place}
+use Rattle.std.{proofs.Common.{◌≡◌, ◌∙◌, ap, sym}, specs.Prelude.Some}
+use Rattle.bench_net.{specs.Scan.{names, signal}, proofs.Public.signal-name_of}
+use Rattle.list_lemmas.proofs.{Members.contained, Places.at_place}
 use Rattle.fault_model.specs.declared.Line.TheVariants as line
 use Rattle.fault_model.specs.Detection.{name_on}
-use Rattle.flat_circuit.proofs.CarriedSignals.{gate_within}
+use Rattle.flat_circuit.proofs.{CarriedSignals.gate_within, ArrangedSignals.output_same}
 use Rattle.flat_circuit.proofs.ArrangedSignals.{data_named, data_same, named_there, output_named}
-use Rattle.flat_circuit.proofs.ArrangedSignals.{output_same}
 use Rattle.flat_circuit.proofs.line_signals.carried.Goals as goal
 
 pub pin_signal-requires-clause-gate : goal.pin_signal-requires-clause-gate
@@ -67,8 +63,7 @@ returns-in-Data c = λ n h.
     let own : name_on circuit (line.Data c.in-Data.cell) ≡ Some n =
     sym (data_same circuit c.args.circuit.now.arranged signals.given.well_formed signals.arranged
     c.in-Data.cell) ∙ at in
-    let is : c.data_signal.result ≡ signal circuit n =
-    c.data_signal.ensures n
+    let is : c.data_signal.result ≡ signal circuit n = c.data_signal.ensures n
     (ap (λ x. name_on x (line.Data c.in-Data.cell)) c.circuit.ensures ∙ own)
     ∙ ap (λ x. signal x n) c.circuit.ensures in
     c.place_of.ensures.place
@@ -115,8 +110,7 @@ returns-in-Out c = λ n h.
     let own : name_on circuit (line.Out c.in-Out.output) ≡ Some n =
     sym (output_same circuit c.args.circuit.now.arranged signals.given.well_formed signals.arranged
     c.in-Out.output) ∙ at in
-    let is : c.output_signal.result ≡ signal circuit n =
-    c.output_signal.ensures n
+    let is : c.output_signal.result ≡ signal circuit n = c.output_signal.ensures n
     (ap (λ x. name_on x (line.Out c.in-Out.output)) c.circuit-in-Out.ensures ∙ own)
     ∙ ap (λ x. signal x n) c.circuit-in-Out.ensures in
     c.place_of-in-Out.ensures.place

@@ -1,5 +1,4 @@
-use Rattle.std.proofs.Common.{◌∙◌, sym}
-use Rattle.std.proofs.lemmas.List.{get_or-map}
+use Rattle.std.proofs.{Common.{◌∙◌, sym}, lemmas.List.get_or-map}
 use Rattle.bench_net.specs.declared.ScanCell.{ScanCell}
 use Rattle.flat_circuit.proofs.CarriedSignals.{data_signal}
 use Rattle.flat_circuit.proofs.line_signals.data_signal.Goals as goal

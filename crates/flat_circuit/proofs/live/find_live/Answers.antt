@@ -1,5 +1,4 @@
-use Rattle.std.proofs.Common.{◌≡◌, ◌-◌, ◌∙◌, arith}
-use Rattle.std.proofs.lemmas.List.{length-set}
+use Rattle.std.proofs.{Common.{◌≡◌, ◌-◌, ◌∙◌, arith}, lemmas.List.length-set}
 use Rattle.flat_circuit.proofs.LevelOrder.{order_within}
 use Rattle.flat_circuit.proofs.LiveSignals.{live_all, live_more, readers_known}
 use Rattle.flat_circuit.proofs.live.find_live.Goals as goal
@@ -13,8 +12,7 @@ pub leads_on-is_live-requires-clause-readers : goal.leads_on-is_live-requires-cl
 leads_on-is_live-requires-clause-readers c = λ gate reads.
     readers_known c.args.circuit.now c.requires.circuit.well_formed
     c.in_level_order-order.result.now c.in_level_order-order.ensures c.loop-place.live
-    c.loop-place.place gate
-    (omega arith) (omega arith) c.loop-place.invariant.known reads
+    c.loop-place.place gate (omega arith) (omega arith) c.loop-place.invariant.known reads
 
 pub bounds-live-signal : goal.bounds-live-signal
 bounds-live-signal c =

@@ -1,15 +1,12 @@
-use Rattle.std.proofs.Common.{refl, inl, inr, sym, ◌∙◌, arith}
-use Rattle.std.proofs.lemmas.Bool.{false≢true}
+use Rattle.std.proofs.{Common.{refl, inl, inr, sym, ◌∙◌, arith}, lemmas.Bool.false≢true}
 use Rattle.bench_net.specs.declared.Sink.TheVariants as sink
 use Rattle.bench_net.specs.Scan.{names}
 use Rattle.list_lemmas.proofs.Places.{within_place}
-use Rattle.flat_circuit.specs.Readers.{IsLive}
+use Rattle.flat_circuit.{specs.Readers.IsLive, proofs.LiveSignals.live_by_observer}
 use Rattle.flat_circuit.proofs.LiveSignals.{dead_all, dead_more, dead_none, live_by_gate}
-use Rattle.flat_circuit.proofs.LiveSignals.{live_by_observer}
-use Rattle.flat_circuit.proofs.Readers.{reader_within}
-use Rattle.flat_circuit.proofs.ObservedSinks.{sink_gate}
-use Rattle.flat_circuit.proofs.live.leads_on.Goals as goal
+use Rattle.flat_circuit.proofs.{Readers.reader_within, ObservedSinks.sink_gate}
 use Rattle.flat_circuit.proofs.live.leads_on.Goals.{in-Pin, in-Data}
+use Rattle.flat_circuit.proofs.live.leads_on.Goals as goal
 
 pub loop-sink-init : goal.loop-sink-init
 loop-sink-init c = dead_none c.args.circuit.now c.sinks_of-sink-items.result.now
@@ -66,8 +63,7 @@ loop-sink-preserved c =
           dead_more circuit well s n.0 n.1 items are i w.in-Pin.gate w.in-Pin.pin
           (sink.Pin 0 0) c.loop-sink-test.true w.in-Pin.is
           (λ live. false≢true (sym c.if-is_live.false
-          ∙ (w.is_live-is ∙ (c.requires.readers w.in-Pin.gate reads).1 live)))
-          c.loop-sink.invariant
+          ∙ (w.is_live-is ∙ (c.requires.readers w.in-Pin.gate reads).1 live))) c.loop-sink.invariant
       | in-Data w ↦ absurd (false≢true (sym c.if-is_live.false ∙ w.is_live-is))
     ]
 
@@ -78,6 +74,5 @@ returns c =
       λ f. absurd (false≢true f),
       λ live. absurd (dead_all circuit c.requires.circuit.well_formed c.args.signal n.0 n.1
           c.sinks_of-sink-items.result.now (c.sinks_of-sink-items.ensures n.0 n.1)
-          c.loop-sink.sink-index
-          c.loop-sink-test.false c.loop-sink.invariant live),
+          c.loop-sink.sink-index c.loop-sink-test.false c.loop-sink.invariant live),
     )

@@ -1,5 +1,4 @@
-use Rattle.std.proofs.Common.{◌<◌, ap, arith, length, subst, sym}
-use Rattle.std.specs.Prelude.{slice_index_or}
+use Rattle.std.{proofs.Common.{◌<◌, ap, arith, length, subst, sym}, specs.Prelude.slice_index_or}
 use Rattle.flat_circuit.proofs.Equations.{pins_within}
 use Rattle.flat_circuit.proofs.order_walk.pins_of.Goals as goal
 

@@ -1,10 +1,8 @@
-use Rattle.std.proofs.Common.{◌<◌, All, arith, length, subst, sym}
-use Rattle.std.proofs.lemmas.List.{get_or_default}
+use Rattle.std.proofs.{Common.{◌<◌, All, arith, length, subst, sym}, lemmas.List.get_or_default}
 use Rattle.std.proofs.lemmas.List.Elements.{All-append, All-push}
 use Rattle.bench_net.specs.Scan.{names}
-use Rattle.flat_circuit.proofs.LevelOrder.{order_within}
+use Rattle.flat_circuit.proofs.{LevelOrder.order_within, order_walk.starts_of.Goals.else-is_marked}
 use Rattle.flat_circuit.proofs.order_walk.starts_of.Goals.{then-is_marked+in_ok-push}
-use Rattle.flat_circuit.proofs.order_walk.starts_of.Goals.{else-is_marked}
 use Rattle.flat_circuit.proofs.order_walk.starts_of.Goals as goal
 
 pub loop-place-preserved : goal.loop-place-preserved
@@ -14,8 +12,7 @@ loop-place-preserved c =
     let low = order_within c.args.circuit.now order c.loop-place.place
     c.in_level_order-order.ensures c.loop-place-test.true in
     elim c.if-is_marked.branch [
-      | then-is_marked+in_ok-push w ↦
-          subst (λ v. All (λ s. s < count) v.items) (sym w.starts-is)
+      | then-is_marked+in_ok-push w ↦ subst (λ v. All (λ s. s < count) v.items) (sym w.starts-is)
           (subst (All (λ s. s < count)) (sym w.in_ok-push.ensures.items)
           (All-push (λ s. s < count) c.loop-place.starts.items _ c.loop-place.invariant low))
       | else-is_marked w ↦

@@ -1,7 +1,5 @@
 use Rattle.std.proofs.Common.{◌≡◌, ◌∙◌, ap, refl}
-use Rattle.fault_model.specs.Detection.{name_on}
-use Rattle.fault_model.specs.Fault.{Fault}
-use Rattle.fault_model.specs.Reordered.{moved_fault, moved_line}
+use Rattle.fault_model.specs.{Detection.name_on, Fault.Fault, Reordered.{moved_fault, moved_line}}
 use Rattle.flat_circuit.specs.Stuck.{stuck_fault}
 use Rattle.flat_circuit.proofs.ArrangedFaults.{carried_name, carries_there, moved_there}
 use Rattle.flat_circuit.proofs.origin.origin_of.Goals as goal

@@ -3,14 +3,12 @@ use Rattle.flat_circuit.proofs.Representatives.{representative_within, fault_is}
 use Rattle.flat_circuit.proofs.origin.representative.Goals as goal
 
 pub line_of-requires : goal.line_of-requires
-line_of-requires c =
-    representative_within c.args.list.now.model c.args.circuit.now c.args.list.now
+line_of-requires c = representative_within c.args.list.now.model c.args.circuit.now c.args.list.now
     c.args.classes.now c.args.class c.representative-fault.result
     c.requires.classes c.requires.list c.representative-fault.ensures
 
 pub stuck_of-requires : goal.stuck_of-requires
-stuck_of-requires c =
-    representative_within c.args.list.now.model c.args.circuit.now c.args.list.now
+stuck_of-requires c = representative_within c.args.list.now.model c.args.circuit.now c.args.list.now
     c.args.classes.now c.args.class c.representative-fault.result
     c.requires.classes c.requires.list c.representative-fault.ensures
 

@@ -1,6 +1,5 @@
 use Rattle.std.proofs.Common.{◌≡◌, ◌<◌, ◌+◌, ◌∙◌, ap, arith, length, subst, sym}
-use Rattle.std.specs.Prelude.{slice_index_or}
-use Rattle.std.proofs.lemmas.Grind.{get_or_default_zero}
+use Rattle.std.{specs.Prelude.slice_index_or, proofs.lemmas.Grind.get_or_default_zero}
 use Rattle.std.proofs.lemmas.List.{length_push}
 use Rattle.bench_net.specs.Scan.{names}
 use Rattle.flat_circuit.specs.Regions.{HaveStems, IsStemOf}

@@ -1,5 +1,4 @@
-use Rattle.std.proofs.Common.{◌≡◌, ◌-◌, ◌∙◌, arith}
-use Rattle.std.proofs.lemmas.List.{length-set}
+use Rattle.std.proofs.{Common.{◌≡◌, ◌-◌, ◌∙◌, arith}, lemmas.List.length-set}
 use Rattle.flat_circuit.proofs.LevelOrder.{order_within}
 use Rattle.flat_circuit.proofs.Stems.{reader_known, stems_all, stems_more}
 use Rattle.flat_circuit.proofs.region_classes.find_stems.Goals as goal

@@ -1,5 +1,4 @@
-use Rattle.std.proofs.Common.{◌≡◌, ◌<◌, All, length}
-use Rattle.std.specs.Prelude.{IfSome}
+use Rattle.std.{proofs.Common.{◌≡◌, ◌<◌, All, length}, specs.Prelude.IfSome}
 use Rattle.flat_circuit.proofs.region_classes.join_circles.Given as goal
 
 abbrev pub invariant-loop-class : goal.invariant-loop-class

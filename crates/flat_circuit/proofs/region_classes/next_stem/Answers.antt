@@ -1,6 +1,5 @@
 use Rattle.std.proofs.Common.{sym, arith}
-use Rattle.flat_circuit.specs.Regions.{here, onward}
-use Rattle.flat_circuit.proofs.Stems.{lone_within}
+use Rattle.flat_circuit.{specs.Regions.{here, onward}, proofs.Stems.lone_within}
 use Rattle.flat_circuit.proofs.region_classes.next_stem.Goals as goal
 
 pub bounds-stems-gate : goal.bounds-stems-gate

@@ -1,5 +1,4 @@
-use Rattle.std.proofs.Common.{◌≡◌, ◌∙◌, arith, length, subst}
-use Rattle.std.proofs.lemmas.List.{with_items_is}
+use Rattle.std.proofs.{Common.{◌≡◌, ◌∙◌, arith, length, subst}, lemmas.List.with_items_is}
 use Rattle.bench_net.specs.Scan.{names}
 use Rattle.counting_sort.specs.SortedPlaces.{AreSortedPlaces}
 use Rattle.flat_circuit.proofs.SortedKeys.{sorted_flow}

@@ -1,5 +1,4 @@
-use Rattle.std.proofs.Common.{◌≤◌, ◌<◌, ℕ, All}
-use Rattle.std.specs.Prelude.{slice_index_or}
+use Rattle.std.{proofs.Common.{◌≤◌, ◌<◌, ℕ, All}, specs.Prelude.slice_index_or}
 use Rattle.flat_circuit.proofs.signal_order.key_above.Given as goal
 
 abbrev pub invariant-loop-pin : goal.invariant-loop-pin

@@ -1,7 +1,6 @@
 use Rattle.std.proofs.Common.{◌<◌, ap, arith, length, subst, sym}
 use Rattle.std.specs.Prelude.{Contains, slice_index_or}
-use Rattle.flat_circuit.proofs.Equations.{pins_within}
-use Rattle.flat_circuit.proofs.Keys.{gate_key, source_key}
+use Rattle.flat_circuit.proofs.{Equations.pins_within, Keys.{gate_key, source_key}}
 use Rattle.flat_circuit.proofs.signal_order.key_of.Goals as goal
 
 pub key_above-requires-clause-pins : goal.key_above-requires-clause-pins
@@ -15,8 +14,7 @@ key_above-requires-clause-pins c = λ k d lt.
 pub returns-in-Some-clause-key : goal.returns-in-Some-clause-key
 returns-in-Some-clause-key c =
     gate_key c.args.circuit.now c.args.signal c.requires.circuit.well_formed c.args.keys.now
-    c.key_above.result c.in-Some.line.now.kind c.in-Some.line.now.pins.items
-    (sym c.in-Some.ensures)
+    c.key_above.result c.in-Some.line.now.kind c.in-Some.line.now.pins.items (sym c.in-Some.ensures)
     (λ pin has. c.key_above.ensures.above pin
     (subst (λ xs. Contains xs pin) (sym c.as_slice.ensures) has))
 

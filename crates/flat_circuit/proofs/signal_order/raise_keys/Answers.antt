@@ -1,9 +1,7 @@
-use Rattle.std.proofs.Common.{◌<◌, ◌+◌, ◌∙◌, arith, length}
-use Rattle.std.proofs.lemmas.List.{length-set}
+use Rattle.std.proofs.{Common.{◌<◌, ◌+◌, ◌∙◌, arith, length}, lemmas.List.length-set}
 use Rattle.std.proofs.lemmas.List.Elements.{All-set, All-weaker}
 use Rattle.bench_net.specs.Scan.{names}
-use Rattle.flat_circuit.proofs.LevelOrder.{order_within}
-use Rattle.flat_circuit.proofs.Keys.{keys_all, keys_more}
+use Rattle.flat_circuit.proofs.{LevelOrder.order_within, Keys.{keys_all, keys_more}}
 use Rattle.flat_circuit.proofs.signal_order.raise_keys.Goals as goal
 
 pub key_of-key-requires-clause-signal : goal.key_of-key-requires-clause-signal

@@ -1,5 +1,4 @@
-use Rattle.std.proofs.Common.{◌≡◌, ◌∙◌, length, subst, arith}
-use Rattle.std.proofs.lemmas.List.{length-set}
+use Rattle.std.proofs.{Common.{◌≡◌, ◌∙◌, length, subst, arith}, lemmas.List.length-set}
 use Rattle.flat_circuit.proofs.FlowOrder.{flow_within}
 use Rattle.flat_circuit.proofs.PlaceTables.{HasPlaces, one_more, all_places}
 use Rattle.flat_circuit.proofs.signal_places.places_of.Goals as goal

@@ -1,9 +1,7 @@
 use Rattle.std.proofs.Common.{◌≡◌, ◌<◌, ◌-◌, ◌+◌, ◌∙◌, arith, length}
 use Rattle.std.specs.Prelude.{bit_xor, slice_index_or}
-use Rattle.flat_circuit.specs.GateForms.{inverted_if}
-use Rattle.flat_circuit.specs.Words.{lane}
+use Rattle.flat_circuit.{specs.GateForms.inverted_if, specs.Words.lane, proofs.Lanes.lane_and}
 use Rattle.flat_circuit.proofs.GateLanes.{at_last, turned_lane}
-use Rattle.flat_circuit.proofs.Lanes.{lane_and}
 use Rattle.flat_circuit.proofs.PinFolds.{all_first, all_last, all_more}
 use Rattle.flat_circuit.proofs.words.all_of.Goals as goal
 
@@ -33,8 +31,7 @@ loop-place-preserved c =
           c.args.gate.pins.now (λ b. inverted_if turn b)
           c.loop-place.place (lane c.loop-place.all k)
           (lane (bit_xor word c.in_each_lane-inverted.result) k) more
-          (c.loop-place.invariant.all k lt)
-          (turned_lane word c.in_each_lane-inverted.result k turn
+          (c.loop-place.invariant.all k lt) (turned_lane word c.in_each_lane-inverted.result k turn
           (c.in_each_lane-inverted.ensures k lt));
       within = omega (arith, more);
     }
@@ -58,5 +55,4 @@ returns c = λ k lt.
       c.loop-place.auto.place,
       c.loop-place.auto.place-end,
     ))) (c.loop-place.invariant.all k lt) c.requires.ends.1
-    (turned_lane word c.in_each_lane-inverted.result k turn
-    (c.in_each_lane-inverted.ensures k lt))
+    (turned_lane word c.in_each_lane-inverted.result k turn (c.in_each_lane-inverted.ensures k lt))

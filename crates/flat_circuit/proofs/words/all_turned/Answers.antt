@@ -1,10 +1,7 @@
 use Rattle.std.proofs.Common.{◌≡◌, ◌<◌, ◌-◌, ◌+◌, ◌∙◌, ℕ, refl, ap, arith, length}
 use Rattle.std.specs.Prelude.{bit_xor, slice_index_or}
-use Rattle.flat_circuit.specs.GateForms.{inverted_if}
-use Rattle.flat_circuit.specs.Words.{lane, turned_word}
-use Rattle.flat_circuit.proofs.FourWords.{turned_bit_of}
-use Rattle.flat_circuit.proofs.GateLanes.{at_last}
-use Rattle.flat_circuit.proofs.Lanes.{lane_and}
+use Rattle.flat_circuit.specs.{GateForms.inverted_if, Words.{lane, turned_word}}
+use Rattle.flat_circuit.proofs.{FourWords.turned_bit_of, GateLanes.at_last, Lanes.lane_and}
 use Rattle.flat_circuit.proofs.PinFolds.{all_first, all_last, all_more}
 use Rattle.flat_circuit.proofs.words.all_turned.Goals as goal
 
@@ -36,8 +33,7 @@ loop-place-preserved c =
           lane_and c.loop-place.all (bit_xor word flips) k
           ∙ all_more bit c.args.gate.pins.now (λ b. inverted_if turn b) c.loop-place.place
           (lane c.loop-place.all k) (lane (bit_xor word flips) k) more
-          (c.loop-place.invariant.all k lt)
-          (turned_bit_of (bit_xor word flips) word flips k turn
+          (c.loop-place.invariant.all k lt) (turned_bit_of (bit_xor word flips) word flips k turn
           (bit (slice_index_or c.args.gate.pins.now c.loop-place.place 0)) refl
           (c.in_each_lane-inverted.ensures k lt) (ap (λ w. lane w k) c.word_turned-word.ensures));
       within = omega (arith, more);

@@ -1,12 +1,8 @@
 use Rattle.std.proofs.Common.{◌≡◌, ◌<◌, ◌-◌, ◌+◌, ◌∙◌, ap, arith, length, subst, sym}
-use Rattle.std.specs.Prelude.{bit_xor}
-use Rattle.std.specs.List.{list_all}
-use Rattle.patterns.specs.Least.{below}
-use Rattle.patterns.proofs.Public.{get_or-below, length-below}
-use Rattle.flat_circuit.specs.GateForms.{inverted_if}
-use Rattle.flat_circuit.specs.Words.{lane}
+use Rattle.std.specs.{Prelude.bit_xor, List.list_all}
+use Rattle.patterns.{specs.Least.below, proofs.Public.{get_or-below, length-below}}
+use Rattle.flat_circuit.{specs.GateForms.inverted_if, specs.Words.lane, proofs.Lanes.lane_and}
 use Rattle.flat_circuit.proofs.GateLanes.{at_last, pin_bit, pin_seen, pins_by_place, turned_lane}
-use Rattle.flat_circuit.proofs.Lanes.{lane_and}
 use Rattle.flat_circuit.proofs.PinFolds.{all_first, all_last, all_more}
 use Rattle.flat_circuit.proofs.words.all_with_stuck.Goals as goal
 
@@ -61,18 +57,15 @@ returns c = λ f signal k lt on bit.
     lane_and c.loop-place.all (bit_xor word c.in_each_lane-inverted.result) k
     ∙ (all_last (pin_bit f signal pins c.args.words.now k) (below (length pins))
     (λ b. inverted_if turn b) c.loop-place.place last last (lane c.loop-place.all k)
-    (lane (bit_xor word c.in_each_lane-inverted.result) k)
-    (length-below (length pins) ∙ count)
+    (lane (bit_xor word c.in_each_lane-inverted.result) k) (length-below (length pins) ∙ count)
     (at_last (length pins) c.loop-place.place started c.loop-place.invariant.within
     (omega (arith, c.loop-place-test.false)) (λ some. omega (
       arith,
       some,
       c.loop-place.auto.place,
       c.loop-place.auto.place-end,
-    ))) (c.loop-place.invariant.all f signal k lt on bit)
-    (get_or-below (length pins) last 0 low)
-    (turned_lane word c.in_each_lane-inverted.result k turn
-    (c.in_each_lane-inverted.ensures k lt)
+    ))) (c.loop-place.invariant.all f signal k lt on bit) (get_or-below (length pins) last 0 low)
+    (turned_lane word c.in_each_lane-inverted.result k turn (c.in_each_lane-inverted.ensures k lt)
     ∙ ap (inverted_if turn) (c.word_at_pin-word-2.ensures f signal k on bit
     ∙ ap (λ s. pin_seen f signal c.args.words.now k last s) (sym c.requires.ends.1)))
     ∙ sym (ap (list_all (λ b. inverted_if turn b))

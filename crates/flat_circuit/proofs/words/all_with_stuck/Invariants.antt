@@ -1,11 +1,8 @@
-use Rattle.std.proofs.Common.{◌≡◌, ◌<◌, ◌≤◌, ℕ, length, map, take}
-use Rattle.std.specs.List.{list_all}
+use Rattle.std.{proofs.Common.{◌≡◌, ◌<◌, ◌≤◌, ℕ, length, map, take}, specs.List.list_all}
 use Rattle.fault_model.specs.declared.Line.TheVariants as line
 use Rattle.fault_model.specs.Fault.{Fault}
 use Rattle.patterns.specs.Least.{below}
-use Rattle.flat_circuit.specs.GateForms.{inverted_if}
-use Rattle.flat_circuit.specs.Words.{lane}
-use Rattle.flat_circuit.proofs.GateLanes.{pin_bit}
+use Rattle.flat_circuit.{specs.GateForms.inverted_if, specs.Words.lane, proofs.GateLanes.pin_bit}
 use Rattle.flat_circuit.proofs.words.all_with_stuck.Given as goal
 
 abbrev pub invariant-loop-place : goal.invariant-loop-place

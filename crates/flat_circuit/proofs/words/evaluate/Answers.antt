@@ -1,11 +1,8 @@
-use Rattle.std.proofs.Common.{◌<◌, ◌≤◌, ◌∙◌, arith, length}
-use Rattle.std.specs.Prelude.{None}
+use Rattle.std.{proofs.Common.{◌<◌, ◌≤◌, ◌∙◌, arith, length}, specs.Prelude.None}
 use Rattle.std.proofs.lemmas.List.{length-set}
 use Rattle.bench_net.specs.Scan.{names}
-use Rattle.patterns.specs.Least.{below}
-use Rattle.patterns.proofs.Public.{length-below}
-use Rattle.flat_circuit.proofs.FlowPass.{natural_more, passed_all}
-use Rattle.flat_circuit.proofs.ArrangedSignals.{natural_order}
+use Rattle.patterns.{specs.Least.below, proofs.Public.length-below}
+use Rattle.flat_circuit.proofs.{FlowPass.{natural_more, passed_all}, ArrangedSignals.natural_order}
 use Rattle.flat_circuit.proofs.words.evaluate.Goals as goal
 
 pub loop-signal-preserved : goal.loop-signal-preserved

@@ -1,7 +1,6 @@
 use Rattle.std.proofs.Common.{◌≡◌, ◌<◌, ◌-◌, ◌+◌, arith, length}
-use Rattle.flat_circuit.specs.Stuck.{fault_of}
+use Rattle.flat_circuit.{specs.Stuck.fault_of, proofs.GateLanes.folds_odd}
 use Rattle.flat_circuit.proofs.GateLanes.{at_last, folds_first, folds_more, folds_last, folds_all}
-use Rattle.flat_circuit.proofs.GateLanes.{folds_odd}
 use Rattle.flat_circuit.proofs.words.folds_of.Goals as goal
 
 pub loop-place-init : goal.loop-place-init
@@ -38,16 +37,14 @@ returns-clause-all c =
     c.args.gate.form.inverts_inputs _ _
     (folds_last (fault_of c.args.fault) c.args.signal pins c.args.words.now c.args.delta.now
     c.args.gate.form.inverts_inputs c.in_each_lane-inverted.result c.loop-place.place last
-    c.loop-place.all c.loop-place.odd
-    c.pin_word-word-2.result c.in_each_lane.result count
+    c.loop-place.all c.loop-place.odd c.pin_word-word-2.result c.in_each_lane.result count
     (at_last (length pins) c.loop-place.place started c.loop-place.invariant.within
     (omega (arith, c.loop-place-test.false)) (λ some. omega (
       arith,
       some,
       c.loop-place.auto.place,
       c.loop-place.auto.place-end,
-    ))) c.in_each_lane-inverted.ensures
-    c.in_each_lane.ensures c.loop-place.invariant.folds
+    ))) c.in_each_lane-inverted.ensures c.in_each_lane.ensures c.loop-place.invariant.folds
     c.pin_word-word-2.ensures started)
 
 pub returns-clause-odd : goal.returns-clause-odd
@@ -60,14 +57,12 @@ returns-clause-odd c =
     c.args.gate.form.inverts_inputs _ _
     (folds_last (fault_of c.args.fault) c.args.signal pins c.args.words.now c.args.delta.now
     c.args.gate.form.inverts_inputs c.in_each_lane-inverted.result c.loop-place.place last
-    c.loop-place.all c.loop-place.odd
-    c.pin_word-word-2.result c.in_each_lane.result count
+    c.loop-place.all c.loop-place.odd c.pin_word-word-2.result c.in_each_lane.result count
     (at_last (length pins) c.loop-place.place started c.loop-place.invariant.within
     (omega (arith, c.loop-place-test.false)) (λ some. omega (
       arith,
       some,
       c.loop-place.auto.place,
       c.loop-place.auto.place-end,
-    ))) c.in_each_lane-inverted.ensures
-    c.in_each_lane.ensures c.loop-place.invariant.folds
+    ))) c.in_each_lane-inverted.ensures c.in_each_lane.ensures c.loop-place.invariant.folds
     c.pin_word-word-2.ensures started)

@@ -1,7 +1,6 @@
 use Rattle.std.proofs.Common.{◌≡◌, ◌<◌, ◌-◌, ◌+◌, ◌∙◌, ◌≤◌, refl, arith, length}
 use Rattle.std.specs.Prelude.{slice_index_or}
-use Rattle.flat_circuit.specs.Words.{lane}
-use Rattle.flat_circuit.proofs.Lanes.{lane_xor}
+use Rattle.flat_circuit.{specs.Words.lane, proofs.Lanes.lane_xor}
 use Rattle.flat_circuit.proofs.PinFolds.{odd_first, odd_last, odd_more, odd_only}
 use Rattle.flat_circuit.proofs.words.odd_of.Goals as goal
 
@@ -34,8 +33,7 @@ returns-then-last-eq0 c = λ k lt.
     let count : length pins ≡ length pins - 1 + 1 = omega (arith, c.requires.some) in
     c.loop-place.invariant.odd k lt
     ∙ odd_only (λ s. lane (slice_index_or c.args.words.now s 0) k) pins c.loop-place.place
-    (length pins - 1) count c.if-last-eq0.true
-    (omega (
+    (length pins - 1) count c.if-last-eq0.true (omega (
       arith,
       c.loop-place.auto.place,
       c.loop-place.invariant.within,
@@ -57,5 +55,4 @@ returns c = λ k lt.
     lane_xor c.loop-place.odd word k
     ∙ odd_last (λ s. lane (slice_index_or c.args.words.now s 0) k) pins c.loop-place.place
     (length pins - 1) c.args.gate.last (lane c.loop-place.odd k)
-    (lane word k) count stop (c.loop-place.invariant.odd k lt)
-    c.requires.ends.1 refl
+    (lane word k) count stop (c.loop-place.invariant.odd k lt) c.requires.ends.1 refl

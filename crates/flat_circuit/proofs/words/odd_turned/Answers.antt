@@ -1,6 +1,5 @@
 use Rattle.std.proofs.Common.{◌≡◌, ◌<◌, ◌-◌, ◌+◌, ◌∙◌, ◌≤◌, ℕ, ap, arith, length}
-use Rattle.flat_circuit.specs.Words.{lane, turned_word}
-use Rattle.flat_circuit.proofs.Lanes.{lane_xor}
+use Rattle.flat_circuit.{specs.Words.{lane, turned_word}, proofs.Lanes.lane_xor}
 use Rattle.flat_circuit.proofs.PinFolds.{odd_first, odd_last, odd_more, odd_only}
 use Rattle.flat_circuit.proofs.words.odd_turned.Goals as goal
 
@@ -33,8 +32,7 @@ returns-then-last-eq0 c = λ k lt.
     let count : length pins ≡ length pins - 1 + 1 = omega (arith, c.requires.some) in
     c.loop-place.invariant.odd k lt
     ∙ odd_only (λ (s : ℕ). lane (turned_word c.args.words.now c.args.turned c.args.lanes s) k) pins
-    c.loop-place.place (length pins - 1) count c.if-last-eq0.true
-    (omega (
+    c.loop-place.place (length pins - 1) count c.if-last-eq0.true (omega (
       arith,
       c.loop-place.auto.place,
       c.loop-place.invariant.within,

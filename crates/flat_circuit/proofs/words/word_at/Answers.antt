@@ -1,7 +1,5 @@
-use Rattle.std.proofs.Common.{◌+◌, ◌*◌, ◌∙◌, ap, sym, arith}
-use Rattle.std.specs.Prelude.{[], false, slice_index_or}
-use Rattle.std.proofs.lemmas.List.{get_or_past}
-use Rattle.std.proofs.lemmas.Nat.Bits.{bit_at-zero}
+use Rattle.std.proofs.{Common.{◌+◌, ◌*◌, ◌∙◌, ap, sym, arith}, lemmas.List.get_or_past}
+use Rattle.std.{specs.Prelude.{[], false, slice_index_or}, proofs.lemmas.Nat.Bits.bit_at-zero}
 use Rattle.patterns.specs.Tests.{as_number}
 use Rattle.flat_circuit.proofs.words.word_at.Goals as goal
 

@@ -10,7 +10,5 @@ returns-then-place-pin c = λ f signal k on bit.
     (on ∙ ap (line.Pin signal) (sym c.if-place-pin.true)))
 
 pub returns-else-place-pin : goal.returns-else-place-pin
-returns-else-place-pin c = λ f signal k on bit.
-    plain_word c.args.words.now c.args.read k
-    ∙ sym (under_other f (line.Pin signal c.args.place) _
-    (λ e. c.if-place-pin.false cc))
+returns-else-place-pin c = λ f signal k on bit. plain_word c.args.words.now c.args.read k
+    ∙ sym (under_other f (line.Pin signal c.args.place) _ (λ e. c.if-place-pin.false cc))

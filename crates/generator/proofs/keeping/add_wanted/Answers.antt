@@ -1,6 +1,5 @@
 use Rattle.std.proofs.Common.{◌≡◌, ◌<◌, ◌+◌, ◌∙◌, ◌++◌, ◌∷◌, [], Some, arith, false, get_or, length}
-use Rattle.std.proofs.Common.{refl, subst, sym, true}
-use Rattle.std.specs.Prelude.{slice_get}
+use Rattle.std.{proofs.Common.{refl, subst, sym, true}, specs.Prelude.slice_get}
 use Rattle.std.proofs.lemmas.Option.{slice_get-get_or}
 use Rattle.generator.specs.Keeping.{AreAmong, IsWanted}
 use Rattle.generator.proofs.AmongTests.{among_back, among_front, pushed_among}

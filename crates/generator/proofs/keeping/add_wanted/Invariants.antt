@@ -1,7 +1,6 @@
 use Rattle.std.proofs.Common.{◌≡◌, ◌≤◌, ◌++◌, ℕ, Bool, List, Some, length}
 use Rattle.std.specs.Prelude.{slice_get}
-use Rattle.generator.specs.Keeping.{AreAmong, IsFirstWanted, IsWanted}
-use Rattle.generator.proofs.KeptTests.{IsBegun}
+use Rattle.generator.{specs.Keeping.{AreAmong, IsFirstWanted, IsWanted}, proofs.KeptTests.IsBegun}
 use Rattle.generator.proofs.keeping.add_wanted.Given as goal
 
 abbrev pub invariant-loop-test : goal.invariant-loop-test
@@ -12,7 +11,6 @@ invariant-loop-test l = record {
       → slice_get l.kept.tests k ≡ Some test;
   among : AreAmong l.kept.tests (l.fn.kept.tests ++ l.tests.tests);
   none : ((t : ℕ) → IsWanted l.marks l.pairs t → ⊥) → l.kept.tests ≡ l.fn.kept.tests;
-  begun : length l.fn.kept.tests ≡ 0 → 2 ≤ l.room → (s : ℕ)
-      → IsFirstWanted l.marks l.pairs s
+  begun : length l.fn.kept.tests ≡ 0 → 2 ≤ l.room → (s : ℕ) → IsFirstWanted l.marks l.pairs s
       → IsBegun l.tests.tests l.marks l.pairs s l.test l.kept.tests;
 }

@@ -1,5 +1,4 @@
-use Rattle.std.proofs.Common.{arith, Some}
-use Rattle.std.proofs.lemmas.Option.{slice_get_within}
+use Rattle.std.proofs.{Common.{arith, Some}, lemmas.Option.slice_get_within}
 use Rattle.generator.proofs.keeping.mark_needed.Goals as goal
 
 pub need_one-requires-clause-test : goal.need_one-requires-clause-test

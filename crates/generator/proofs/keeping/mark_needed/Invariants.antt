@@ -1,5 +1,4 @@
-use Rattle.std.proofs.Common.{◌≡◌, ◌<◌, ℕ, Some}
-use Rattle.std.specs.Prelude.{slice_get}
+use Rattle.std.{proofs.Common.{◌≡◌, ◌<◌, ℕ, Some}, specs.Prelude.slice_get}
 use Rattle.block_sim.specs.Parts.{HasRoom}
 use Rattle.generator.specs.Keeping.{AreNoted, HasFirst, HasMark, IsMarked}
 use Rattle.generator.proofs.keeping.mark_needed.Given as goal

@@ -1,6 +1,5 @@
 use Rattle.std.proofs.Common.{◌≡◌, ◌<◌, ◌∙◌, [], arith, false, get_or, length, sym}
-use Rattle.std.proofs.lemmas.List.{same_lists}
-use Rattle.std.proofs.lemmas.Option.{get_or_from_slice_get, slice_get-get_or}
+use Rattle.std.proofs.lemmas.{List.same_lists, Option.{get_or_from_slice_get, slice_get-get_or}}
 use Rattle.generator.proofs.keeping.read_row.Goals as goal
 
 pub returns : goal.returns
@@ -14,6 +13,5 @@ returns c =
     let within : k < tests.width = omega (arith, lt, c.loop-source.auto.row, c.requires.row) in
     let in_own : k < length own = omega (arith, within, long) in
     c.loop-source.invariant k d
-    (omega (arith, within, c.width-source-end.ensures.width, c.loop-source-test.false))
-    ∙ sym
+    (omega (arith, within, c.width-source-end.ensures.width, c.loop-source-test.false)) ∙ sym
     (get_or_from_slice_get own k (get_or own k false) d (slice_get-get_or own k false in_own)))

@@ -1,8 +1,6 @@
-use Rattle.std.specs.Prelude.{⊤}
-use Rattle.std.proofs.lemmas.Result.{err_from_is_err_and}
+use Rattle.std.{specs.Prelude.⊤, proofs.lemmas.Result.err_from_is_err_and}
 use Rattle.region_runs.proofs.Public.{first_open, firsts_kept, passing_fault}
-use Rattle.region_runs.specs.StretchRuns.{ListWaitsFor}
-use Rattle.region_runs.specs.Tasks.{first_tests}
+use Rattle.region_runs.specs.{StretchRuns.ListWaitsFor, Tasks.first_tests}
 use Rattle.workers.specs.Stops.{no_stop}
 use Rattle.generator.proofs.search.class_firsts.Goals as goal
 
@@ -16,8 +14,7 @@ returns-clause-firsts g c =
 
 pub returns-in_err-firsts-clause-refused : goal.returns-in_err-firsts-clause-refused
 returns-in_err-firsts-clause-refused g c =
-    let p = err_from_is_err_and c.from_residual.result
-    c.from_residual.ensures.1 in
+    let p = err_from_is_err_and c.from_residual.result c.from_residual.ensures.1 in
     rw (p.1, p.2) (passing_fault c.args.job.now c.args.workers ⊤
     (ListWaitsFor (first_tests c.args.job.now) c.args.classes.now c.args.workers no_stop) _ tt
     c.in_err-firsts.ensures.refused)

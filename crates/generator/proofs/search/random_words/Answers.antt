@@ -1,8 +1,7 @@
 use Rattle.std.proofs.Common.{◌≡◌, ◌∙◌, ◌++◌, ◌%◌, ◌∷◌, [], None, ap, length, refl, sym}
 use Rattle.std.specs.Prelude.{slice_index_or}
 use Rattle.generator.specs.RandomTests.{held_word, held_words, next_words, numbers}
-use Rattle.generator.proofs.HeldColumns.{held_more, word_count}
-use Rattle.generator.proofs.RandomWords.{word_more}
+use Rattle.generator.proofs.{HeldColumns.{held_more, word_count}, RandomWords.word_more}
 use Rattle.generator.proofs.search.random_words.Goals as goal
 
 pub loop-place-preserved : goal.loop-place-preserved
@@ -20,10 +19,8 @@ loop-place-preserved c =
     c.held_word.ensures in
     let count = word_count c.loop-place.place s in
     record {
-      words = c.in_ok-push.ensures.items
-          ∙ (ap (λ l. l ++ c.held_word.result ∷ []) was.words
-          ∙ (ap (λ x. held_words bits drawn ++ x ∷ []) own
-          ∙ (ap (λ n. held_words bits drawn
+      words = c.in_ok-push.ensures.items ∙ (ap (λ l. l ++ c.held_word.result ∷ []) was.words
+          ∙ (ap (λ x. held_words bits drawn ++ x ∷ []) own ∙ (ap (λ n. held_words bits drawn
           ++ held_word (slice_index_or bits (n % length bits) None) word ∷ []) (sym count)
           ∙ (sym (held_more bits drawn word) ∙ ap (held_words bits) more.0))));
       rest = more.1;

@@ -1,27 +1,17 @@
 use Rattle.std.proofs.Common.{◌≡◌, ◌<◌, ◌≤◌, ◌+◌, ◌*◌, ◌∙◌, ◌++◌, ◌⊎◌, inl, inr, ℕ, List, All}
-use Rattle.std.proofs.Common.{length}
-use Rattle.std.proofs.Common.{refl, sym, ap, subst, arith}
-use Rattle.std.proofs.lemmas.Bool.Decides.{nat_tests}
+use Rattle.std.proofs.{Common.{length, refl, sym, ap, subst, arith}, lemmas.Bool.Decides.nat_tests}
 use Rattle.std.proofs.lemmas.Option.{slice_get_within}
-use Rattle.bench_net.specs.Scan.{sources}
-use Rattle.bench_net.specs.Statement.{Statement}
-use Rattle.fault_model.specs.Collapse.{Collapsed}
-use Rattle.fault_model.specs.Fault.{FaultList}
-use Rattle.patterns.specs.Making.{IsMadeOf}
-use Rattle.patterns.specs.Tests.{TestList}
+use Rattle.bench_net.specs.{Scan.sources, Statement.Statement}
+use Rattle.fault_model.specs.{Collapse.Collapsed, Fault.FaultList}
+use Rattle.patterns.specs.{Making.IsMadeOf, Tests.TestList}
 use Rattle.region_sim.proofs.Public.{all_within}
 use Rattle.workers.specs.Verdict.{AreClassFirsts}
-use Rattle.generator.specs.Generated.{DetectsEarly}
-use Rattle.generator.specs.Keeping.{AreLeft, HasFirst}
-use Rattle.generator.specs.Held.{AreAllowed}
+use Rattle.generator.specs.{Generated.DetectsEarly, Keeping.{AreLeft, HasFirst}, Held.AreAllowed}
 use Rattle.generator.specs.RandomTests.{IsRound, after_words, held_words, next_words, numbers}
-use Rattle.generator.specs.RandomTests.{seeded}
-use Rattle.generator.proofs.AmongTests.{allowed_among, allowed_joined}
-use Rattle.generator.proofs.HeldColumns.{made_allowed, word_count}
-use Rattle.generator.proofs.LeftClasses.{left_within}
-use Rattle.generator.proofs.RandomWords.{round_more, seeded_is}
+use Rattle.generator.{specs.RandomTests.seeded, proofs.AmongTests.{allowed_among, allowed_joined}}
+use Rattle.generator.proofs.{HeldColumns.{made_allowed, word_count}, LeftClasses.left_within}
+use Rattle.generator.proofs.{RandomWords.{round_more, seeded_is}, Searches.searching_none}
 use Rattle.generator.proofs.Searches.{enough_rounds, search_over, searching_along, searching_more}
-use Rattle.generator.proofs.Searches.{searching_none}
 use Rattle.generator.proofs.search.search.Goals.{then-len, else-len}
 use Rattle.generator.proofs.search.search.Goals as goal
 
@@ -63,8 +53,7 @@ returns-then-is_empty-clause-early g c =
           inr (inr (omega (arith, w.if-count-room.true, w.count.ensures)))
     ] in
     search_over c.args.job.now left.items kept c.args.bits.now room c.args.settings.seed
-    c.min-blocks.result
-    c.loop-round._round quiet c.circuit.ensures.together
+    c.min-blocks.result c.loop-round._round quiet c.circuit.ensures.together
     (omega (arith, c.room_of-room.ensures.some)) over was.searching
 
 pub returns-clause-early : goal.returns-clause-early
@@ -114,28 +103,21 @@ loop-round-preserved g c =
     subst (λ fs. ((t : ℕ) → HasFirst fs t → ⊥) → new ≡ old) c.deref-in-loop-round-2.ensures.value
     c.in_ok-keep_tests.ensures.none in
     let early : length old ≡ 0 → 2 ≤ room → (t : ℕ) → HasFirst firsts t
-    → DetectsEarly job.list.model job.circuit new =
-    subst
-    (λ fs.
-    length old ≡ 0 → 2 ≤ room → (t : ℕ) → HasFirst fs t
+    → DetectsEarly job.list.model job.circuit new = subst
+    (λ fs. length old ≡ 0 → 2 ≤ room → (t : ℕ) → HasFirst fs t
     → DetectsEarly job.list.model job.circuit new)
     c.deref-in-loop-round-2.ensures.value c.in_ok-keep_tests.ensures.early in
     let bits = c.args.bits.now in
     let width = length (sources start.circuit) in
     let words = width * blocks in
     let made : IsMadeOf width (64 * blocks)
-    (held_words bits (next_words words (numbers c.loop-round.rng))) job.tests =
-    subst
-    (λ (x : List Statement).
-    IsMadeOf (length (sources x)) (64 * blocks)
+    (held_words bits (next_words words (numbers c.loop-round.rng))) job.tests = subst
+    (λ (x : List Statement). IsMadeOf (length (sources x)) (64 * blocks)
     (held_words bits (next_words (length (sources x) * blocks) (numbers c.loop-round.rng)))
-    job.tests)
-    was.circuit c.in_ok-take_random_tests.ensures.made in
+    job.tests) was.circuit c.in_ok-take_random_tests.ensures.made in
     let after : numbers c.take_random_tests.new.rng
-    ≡ after_words words (numbers c.loop-round.rng) =
-    subst
-    (λ (x : List Statement).
-    numbers c.take_random_tests.new.rng
+    ≡ after_words words (numbers c.loop-round.rng) = subst
+    (λ (x : List Statement). numbers c.take_random_tests.new.rng
     ≡ after_words (length (sources x) * blocks) (numbers c.loop-round.rng))
     was.circuit c.in_ok-take_random_tests.ensures.rest in
     let of_start : IsRound seed width blocks bits round job.tests =
@@ -152,8 +134,7 @@ loop-round-preserved g c =
     let allowed : AreAllowed bits job.tests.tests =
     made_allowed bits blocks (next_words words (numbers c.loop-round.rng)) job.tests
     (word_count words (numbers c.loop-round.rng) ∙ ap (λ (n : ℕ). n * blocks) (sym count))
-    c.tests-tests.ensures.together.tests
-    (subst (λ (n : ℕ).
+    c.tests-tests.ensures.together.tests (subst (λ (n : ℕ).
     IsMadeOf n (64 * blocks) (held_words bits (next_words words (numbers c.loop-round.rng)))
     job.tests) (sym count) made) in
     let counted : length still ≡ length left → c.if-len.quiet ≡ c.loop-round.quiet + blocks =

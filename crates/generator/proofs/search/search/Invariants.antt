@@ -1,7 +1,6 @@
 use Rattle.std.proofs.Common.{◌≡◌, ◌*◌, ◌<◌, ◌≤◌, All, length}
 use Rattle.bench_net.specs.Scan.{sources}
-use Rattle.generator.specs.Held.{AreAllowed}
-use Rattle.generator.specs.RandomTests.{after_rounds, numbers, seeded}
+use Rattle.generator.specs.{Held.AreAllowed, RandomTests.{after_rounds, numbers, seeded}}
 use Rattle.generator.proofs.Searches.{IsSearching}
 use Rattle.generator.proofs.search.search.Given as goal
 

@@ -36,11 +36,7 @@ returns-in_ok-warnings_of-in-None c =
     let many : c.count_tests-taken.result.pieces ≡ piece_count job = taken.pieces
     ∙ (ap (λ k. k * c.count_tests-taken.result.blocks) classes.2
     ∙ ap (λ k. length classes.0.representative * k) taken.blocks) in (
-      record {
-        counts = c.in_ok-counts.ensures;
-        most = c.tests_a_run.ensures;
-        tests = taken;
-      },
+      record { counts = c.in_ok-counts.ensures; most = c.tests_a_run.ensures; tests = taken },
       job,
       is_made m circuit classes.0 tests classes.1 c.requires,
       subst (λ k. k ≤ max_pieces) many c.in-None.ensures.none,

@@ -1,6 +1,5 @@
 use Rattle.std.proofs.Common.{arith}
-use Rattle.input_check.specs.Objects.{error_of, error_text}
-use Rattle.input_check.proofs.Parts.{with_next}
+use Rattle.input_check.{specs.Objects.{error_of, error_text}, proofs.Parts.with_next}
 use Rattle.input_check.proofs.errors.error_elements.Goals as goal
 
 pub loop-row-preserved : goal.loop-row-preserved

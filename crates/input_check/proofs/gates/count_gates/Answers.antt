@@ -1,14 +1,10 @@
-use Rattle.std.proofs.Common.{◌≡◌, ◌∙◌, ◌<◌, ◌≤◌, ap, arith, length, refl, sym}
+use Rattle.std.{proofs.Common.{◌≡◌, ◌∙◌, ◌<◌, ◌≤◌, ap, arith, length, refl, sym}, specs.List.filter}
 use Rattle.std.proofs.lemmas.List.{length-map, length-set}
-use Rattle.std.specs.List.{filter}
-use Rattle.bench_net.specs.declared.Kind.{Kind}
-use Rattle.bench_net.specs.declared.Kind.TheVariants.{And}
+use Rattle.bench_net.specs.{declared.Kind.Kind, declared.Kind.TheVariants.And, Statement.defines}
 use Rattle.bench_net.specs.Scan.{cells, names, outputs}
-use Rattle.bench_net.specs.Statement.{defines}
-use Rattle.input_check.specs.Counts.{kind_place}
+use Rattle.input_check.{specs.Counts.kind_place, proofs.GatesAmong.sinks_at_end}
 use Rattle.input_check.proofs.GatesAmong.{all_sinks, at_end, at_start, counted_at, defining}
 use Rattle.input_check.proofs.GatesAmong.{few_gates, next_gate, next_source, pins_among, same_self}
-use Rattle.input_check.proofs.GatesAmong.{sinks_at_end}
 use Rattle.input_check.proofs.gates.count_gates.Goals as goal
 
 pub loop-signal-init : goal.loop-signal-init

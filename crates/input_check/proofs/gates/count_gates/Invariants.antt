@@ -1,7 +1,5 @@
-use Rattle.std.proofs.Common.{◌≡◌, ◌+◌, get_or, length}
-use Rattle.std.specs.List.{filter}
-use Rattle.bench_net.specs.declared.Kind.{Kind}
-use Rattle.bench_net.specs.Statement.{defines}
+use Rattle.std.{proofs.Common.{◌≡◌, ◌+◌, get_or, length}, specs.List.filter}
+use Rattle.bench_net.specs.{declared.Kind.Kind, Statement.defines}
 use Rattle.input_check.specs.Counts.{gate_count, kind_place, pin_count}
 use Rattle.input_check.proofs.GatesAmong.{gates_from, pins_from}
 use Rattle.input_check.proofs.gates.count_gates.Given as goal

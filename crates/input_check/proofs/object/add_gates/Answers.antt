@@ -1,5 +1,4 @@
-use Rattle.std.proofs.Common.{append-nil}
-use Rattle.std.specs.Prelude.{decimal, sum}
+use Rattle.std.{proofs.Common.append-nil, specs.Prelude.{decimal, sum}}
 use Rattle.input_check.proofs.Parts.{three_parts}
 use Rattle.input_check.proofs.object.add_gates.Goals as goal
 

@@ -1,12 +1,11 @@
 use Rattle.input_check.proofs.object.add_ports.Goals as goal
 
 pub returns : goal.returns
-returns c =
-    rw (
-      c.numbered.ensures.name,
-      c.numbered.ensures.number,
-      c.numbered-2.ensures.name,
-      c.numbered-2.ensures.number,
-      c.numbered-3.ensures.name,
-      c.numbered-3.ensures.number,
-    ) at c.add_members.ensures
+returns c = rw (
+  c.numbered.ensures.name,
+  c.numbered.ensures.number,
+  c.numbered-2.ensures.name,
+  c.numbered-2.ensures.number,
+  c.numbered-3.ensures.name,
+  c.numbered-3.ensures.number,
+) at c.add_members.ensures

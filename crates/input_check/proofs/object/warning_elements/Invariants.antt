@@ -1,5 +1,4 @@
-use Rattle.std.proofs.Common.{◌≡◌, map, string_bytes, take}
-use Rattle.std.specs.List.{flat_map}
+use Rattle.std.{proofs.Common.{◌≡◌, map, string_bytes, take}, specs.List.flat_map}
 use Rattle.input_check.specs.Objects.{warning_text}
 use Rattle.input_check.proofs.object.warning_elements.Given as goal
 

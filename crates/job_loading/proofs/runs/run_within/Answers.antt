@@ -14,6 +14,5 @@ returns-then-has_too_many_pieces-clause-refused g c =
     c.requires.tests limited many
 
 pub returns-clause-within : goal.returns-clause-within
-returns-clause-within g c =
-    not_too_many c.args.job c.in_ok-run.run'.whole c.args.tests c.args.limit
+returns-clause-within g c = not_too_many c.args.job c.in_ok-run.run'.whole c.args.tests c.args.limit
     c.in_ok-run.ensures.kept (λ limited. search rules)

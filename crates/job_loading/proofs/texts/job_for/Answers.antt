@@ -1,5 +1,4 @@
-use Rattle.std.proofs.Common.{◌<◌, inl, inr}
-use Rattle.std.proofs.lemmas.Result.{err_from_is_err_and}
+use Rattle.std.proofs.{Common.{◌<◌, inl, inr}, lemmas.Result.err_from_is_err_and}
 use Rattle.patterns.specs.Tests.{max_pieces}
 use Rattle.block_sim.specs.Parts.{Parts, piece_count}
 use Rattle.job_loading.proofs.JobsOfTexts.{job_is, job_refused}
@@ -11,8 +10,7 @@ new-requires c =
     c.in_ok-faults.ensures c.in_ok-classes.ensures.classes c.requires).2
 
 pub returns-clause-job : goal.returns-clause-job
-returns-clause-job c =
-    rw (c.in_ok-new.ensures.job)
+returns-clause-job c = rw (c.in_ok-new.ensures.job)
     (job_is c.args.model c.args.circuit c.in_ok-faults.faults c.in_ok-classes.classes c.args.tests
     c.in_ok-faults.ensures c.in_ok-classes.ensures.classes c.requires)
 
@@ -27,7 +25,6 @@ returns-in_err-new-clause-refused c =
       tests = c.args.tests;
     } in
     let is = job_is c.args.model c.args.circuit c.in_ok-faults.faults c.in_ok-classes.classes
-    c.args.tests
-    c.in_ok-faults.ensures c.in_ok-classes.ensures.classes c.requires in
+    c.args.tests c.in_ok-faults.ensures c.in_ok-classes.ensures.classes c.requires in
     rw (p.1, p.2) (elim (job_refused Parts (max_pieces < piece_count job) c.in_err-new.field-0.0
     c.in_err-new.ensures.too_many) [ inl h ↦ inl h | inr h ↦ inr (job, is, h) ])

@@ -1,5 +1,4 @@
-use Rattle.std.proofs.Common.{◌≡◌, ℕ, vec_len}
-use Rattle.std.specs.Prelude.{Some, slice_get}
+use Rattle.std.{proofs.Common.{◌≡◌, ℕ, vec_len}, specs.Prelude.{Some, slice_get}}
 use Rattle.n_detect.specs.Detections.{IsClassCount}
 use Rattle.n_detect.proofs.faults.by_fault.Given as goal
 

@@ -1,5 +1,4 @@
-use Rattle.std.specs.Prelude.{slice_index}
-use Rattle.std.proofs.lemmas.Option.{slice_get-get_or}
+use Rattle.std.{specs.Prelude.slice_index, proofs.lemmas.Option.slice_get-get_or}
 use Rattle.n_detect.proofs.faults.count_of.Goals as goal
 
 pub returns : goal.returns

@@ -1,7 +1,6 @@
 use Rattle.std.proofs.Common.{◌≡◌, ◌∙◌, ℕ, Option, ap, arith, map, min, subst, sym}
 use Rattle.region_runs.specs.RunJobs.{RunView}
-use Rattle.n_detect.specs.Detections.{AreCountsAt}
-use Rattle.n_detect.specs.HitCounts.{one_of}
+use Rattle.n_detect.specs.{Detections.AreCountsAt, HitCounts.one_of}
 use Rattle.n_detect.proofs.CountsBefore.{counts_at, ones_kept}
 use Rattle.n_detect.proofs.faults.detections.Goals as goal
 

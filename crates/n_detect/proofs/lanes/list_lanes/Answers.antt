@@ -1,12 +1,9 @@
 use Rattle.std.proofs.Common.{◌≡◌, ◌∙◌, ap, arith, length, rules, subst, sym, true}
-use Rattle.std.specs.Prelude.{slice_index_or}
-use Rattle.std.proofs.lemmas.List.{get_or-replicate, with_items_is}
+use Rattle.std.{specs.Prelude.slice_index_or, proofs.lemmas.List.{get_or-replicate, with_items_is}}
 use Rattle.std.proofs.lemmas.Option.{get_or_from_slice_get, slice_get_within}
-use Rattle.region_sim.proofs.Public.{successors_open}
-use Rattle.region_sim.specs.ClassOrder.{AreRowsOf}
+use Rattle.region_sim.{proofs.Public.successors_open, specs.ClassOrder.AreRowsOf}
 use Rattle.region_sim.specs.OpenPlaces.{AreNextOpen}
-use Rattle.n_detect.specs.ListLanes.{AreListLanes}
-use Rattle.n_detect.proofs.GroupWords.{group_lanes}
+use Rattle.n_detect.{specs.ListLanes.AreListLanes, proofs.GroupWords.group_lanes}
 use Rattle.n_detect.proofs.ListLanes.{list_lanes_are}
 use Rattle.region_runs.proofs.Public.{row_listed}
 use Rattle.n_detect.proofs.lanes.list_lanes.Goals as goal
@@ -38,14 +35,11 @@ returns-clause-lanes c =
     let same = ap length c.as_mut_slice-kept.ensures.value in
     let whole : length found ≡ words.len =
     omega (arith, c.simulate.ensures.places, c.as_mut_slice-kept.ensures.len) in
-    let count : length found ≡ length classes =
-    omega (arith, whole, c.in_ok-words.ensures.len) in
+    let count : length found ≡ length classes = omega (arith, whole, c.in_ok-words.ensures.len) in
     subst (AreListLanes job group classes) (sym (with_items_is words found whole))
     (list_lanes_are job group classes rows found are count
     (group_lanes job c.tests-tests.ensures.together group c.span_of-span.result rows before found
-    span.first span.whole
-    (λ place row at. row_listed job rows place row are.each at)
-    (λ place n e.
+    span.first span.whole (λ place row at. row_listed job rows place row are.each at) (λ place n e.
     let lt = slice_get_within before place n e in
     sym (get_or_from_slice_get before place n 0 e)
     ∙ (ap (λ l. slice_index_or l place 0) (c.as_mut_slice-kept.ensures.value ∙ zeros)
@@ -55,5 +49,4 @@ returns-clause-lanes c =
       c.in_ok-words.ensures.len,
       words.ok.0,
       same,
-    ))))
-    c.simulate.ensures.taken))
+    )))) c.simulate.ensures.taken))

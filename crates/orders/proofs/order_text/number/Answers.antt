@@ -1,5 +1,4 @@
-use Rattle.std.proofs.Common.{Some, sym, ap, ◌∙◌, arith, rules}
-use Rattle.std.proofs.lemmas.Bool.{cond-true}
+use Rattle.std.proofs.{Common.{Some, sym, ap, ◌∙◌, arith, rules}, lemmas.Bool.cond-true}
 use Rattle.orders.proofs.Numbers.{IsRead-none, IsRead-more, IsRead-bound, is_number_all}
 use Rattle.orders.proofs.order_text.number.Goals as goal
 

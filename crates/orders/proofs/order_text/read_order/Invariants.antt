@@ -1,8 +1,6 @@
-use Rattle.std.proofs.Common.{◌≡◌, ◌++◌, map, length}
-use Rattle.std.specs.List.{filter_map, enumerate_from}
-use Rattle.text_lines.specs.Rows.{rows}
+use Rattle.std.{proofs.Common.{◌≡◌, ◌++◌, map, length}, specs.List.{filter_map, enumerate_from}}
+use Rattle.text_lines.specs.{Rows.rows, Reading.rows_left}
 use Rattle.orders.specs.Order.{number, order_fault, order_faults}
-use Rattle.text_lines.specs.Reading.{rows_left}
 use Rattle.orders.proofs.order_text.read_order.Given as goal
 
 abbrev pub invariant-loop-row : goal.invariant-loop-row

@@ -1,5 +1,4 @@
-use Rattle.std.proofs.Common.{arith, rules}
-use Rattle.std.proofs.lemmas.List.{take_rest}
+use Rattle.std.proofs.{Common.{arith, rules}, lemmas.List.take_rest}
 use Rattle.part_files.proofs.CutTexts.{cut_at_last, lacks_from}
 use Rattle.part_files.proofs.cut.cut_last.Goals as goal
 

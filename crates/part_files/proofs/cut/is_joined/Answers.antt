@@ -1,5 +1,4 @@
-use Rattle.std.proofs.Common.{sym, ◌∙◌}
-use Rattle.std.proofs.lemmas.List.{append_cancel_left}
+use Rattle.std.proofs.{Common.{sym, ◌∙◌}, lemmas.List.append_cancel_left}
 use Rattle.byte_output.proofs.Public.{flat_map_cut}
 use Rattle.part_files.proofs.cut.is_joined.Goals as goal
 

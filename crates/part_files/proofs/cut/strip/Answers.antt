@@ -1,5 +1,4 @@
-use Rattle.std.proofs.lemmas.Slice.Eq.{strip_prefix_is}
-use Rattle.std.proofs.lemmas.Bool.Decides.{Decides-eqb}
+use Rattle.std.proofs.lemmas.{Slice.Eq.strip_prefix_is, Bool.Decides.Decides-eqb}
 use Rattle.part_files.proofs.cut.strip.Goals as goal
 
 pub returns : goal.returns

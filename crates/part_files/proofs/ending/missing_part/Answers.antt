@@ -1,5 +1,4 @@
-use Rattle.std.proofs.Common.{below_more}
-use Rattle.std.proofs.lemmas.Bool.{eqb-true}
+use Rattle.std.proofs.{Common.below_more, lemmas.Bool.eqb-true}
 use Rattle.part_files.proofs.ending.missing_part.Goals as goal
 
 pub loop-part-preserved : goal.loop-part-preserved

@@ -1,11 +1,9 @@
-use Rattle.std.proofs.Common.{ap, ◌≤◌, length, arith, ◌∙◌, sym}
-use Rattle.std.specs.Prelude.{zip}
+use Rattle.std.{proofs.Common.{ap, ◌≤◌, length, arith, ◌∙◌, sym}, specs.Prelude.zip}
 use Rattle.std.proofs.lemmas.Result.{err_from_is_err_and}
-use Rattle.part_files.specs.PartReading.{texts_in}
+use Rattle.part_files.{specs.PartReading.texts_in, proofs.MergeEnds.name_at}
+use Rattle.part_files.proofs.JoinedParts.{texts_count}
 use Rattle.report.specs.Report.{wanted_name}
 use Rattle.byte_output.proofs.Public.{takes_more, stopped, flat_map_cut, flat_map_taken}
-use Rattle.part_files.proofs.MergeEnds.{name_at}
-use Rattle.part_files.proofs.JoinedParts.{texts_count}
 use Rattle.threaded_lines.proofs.Public.{all_zipped}
 use Rattle.part_files.proofs.ending.put_names.Goals as goal
 

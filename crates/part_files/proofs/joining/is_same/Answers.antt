@@ -1,5 +1,4 @@
-use Rattle.std.proofs.Common.{◌∙◌, sym}
-use Rattle.std.proofs.lemmas.Bool.Decides.{Decides-eqb}
+use Rattle.std.proofs.{Common.{◌∙◌, sym}, lemmas.Bool.Decides.Decides-eqb}
 use lib.Pointwise.{pointwise_decides}
 use Rattle.part_files.proofs.PartWords.{differs}
 use Rattle.part_files.proofs.joining.is_same.Goals as goal

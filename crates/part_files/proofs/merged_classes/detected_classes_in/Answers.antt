@@ -1,7 +1,5 @@
-use Rattle.std.proofs.Common.{◌∙◌, ap, sym, arith}
-use Rattle.std.specs.Prelude.{is_some}
-use Rattle.report.specs.Report.{first_at}
-use Rattle.report.proofs.Public.{counted_class, uncounted_class}
+use Rattle.std.{proofs.Common.{◌∙◌, ap, sym, arith}, specs.Prelude.is_some}
+use Rattle.report.{specs.Report.first_at, proofs.Public.{counted_class, uncounted_class}}
 use Rattle.part_files.proofs.merged_classes.detected_classes_in.Goals.{then-is_some, else-is_some}
 use Rattle.part_files.proofs.merged_classes.detected_classes_in.Goals as goal
 

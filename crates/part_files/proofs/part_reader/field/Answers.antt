@@ -1,5 +1,4 @@
-use Rattle.std.proofs.Common.{sym, ◌∙◌}
-use Rattle.std.proofs.lemmas.Bool.{eqb-true}
+use Rattle.std.proofs.{Common.{sym, ◌∙◌}, lemmas.Bool.eqb-true}
 use Rattle.part_files.proofs.PartWords.{empty_field, no_field}
 use Rattle.part_files.proofs.part_reader.field.Goals as goal
 

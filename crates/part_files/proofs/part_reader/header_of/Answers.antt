@@ -1,8 +1,6 @@
-use Rattle.std.proofs.Common.{arith}
-use Rattle.std.specs.Prelude.{codes}
-use Rattle.part_files.proofs.PartWords.{field_lacks}
+use Rattle.std.{proofs.Common.arith, specs.Prelude.codes}
+use Rattle.part_files.proofs.{PartWords.field_lacks, PartHeads.{second_field, words_in_head}}
 use Rattle.part_files.proofs.PartHeads.{are_words, first_field, head_read, no_first, no_second}
-use Rattle.part_files.proofs.PartHeads.{second_field, words_in_head}
 use Rattle.part_files.proofs.part_reader.header_of.Goals as goal
 
 pub returns-in_err-part : goal.returns-in_err-part

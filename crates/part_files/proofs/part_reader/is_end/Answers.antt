@@ -1,5 +1,4 @@
-use Rattle.std.proofs.Common.{ap, ◌∙◌}
-use Rattle.std.specs.Prelude.{decimal}
+use Rattle.std.{proofs.Common.{ap, ◌∙◌}, specs.Prelude.decimal}
 use Rattle.part_files.proofs.PartLines.{end_pieces, end_pieces_only}
 use Rattle.part_files.proofs.part_reader.is_end.Goals as goal
 

@@ -1,6 +1,5 @@
 use Rattle.std.proofs.Common.{sym, ◌∙◌, subst}
-use Rattle.part_files.specs.Cut.{Lacks}
-use Rattle.part_files.proofs.CutTexts.{lacks_not}
+use Rattle.part_files.{specs.Cut.Lacks, proofs.CutTexts.lacks_not}
 use Rattle.part_files.proofs.PartLines.{body_of, line_once, line_read}
 use Rattle.part_files.proofs.part_reader.line_of.Goals as goal
 

@@ -1,5 +1,4 @@
-use Rattle.std.proofs.Common.{◌≡◌, ◌^◌, sym, ◌∙◌, arith, lit<, ap}
-use Rattle.std.specs.Prelude.{decimal}
+use Rattle.std.{proofs.Common.{◌≡◌, ◌^◌, sym, ◌∙◌, arith, lit<, ap}, specs.Prelude.decimal}
 use Rattle.std.proofs.lemmas.Fmt.{parse-decimal}
 use Rattle.part_files.proofs.PartWords.{not_utf8, differs}
 use Rattle.part_files.proofs.part_reader.number_of.Goals as goal

@@ -1,5 +1,4 @@
-use Rattle.std.proofs.Common.{◌∙◌, ap}
-use Rattle.std.proofs.lemmas.Result.{err_from_is_err_and}
+use Rattle.std.proofs.{Common.{◌∙◌, ap}, lemmas.Result.err_from_is_err_and}
 use Rattle.part_files.specs.PartReading.{end_of, head_in}
 use Rattle.part_files.proofs.PartReadings.{begun_end, end_refused, part_of, reading_more}
 use Rattle.part_files.proofs.part_reader.read_lines.Goals as goal

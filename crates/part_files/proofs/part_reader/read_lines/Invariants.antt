@@ -1,6 +1,5 @@
 use Rattle.std.proofs.Common.{length}
-use Rattle.part_files.specs.PartReading.{head_in, texts_in}
-use Rattle.part_files.proofs.PartReadings.{Reading}
+use Rattle.part_files.{specs.PartReading.{head_in, texts_in}, proofs.PartReadings.Reading}
 use Rattle.part_files.proofs.part_reader.read_lines.Given as goal
 
 abbrev pub invariant-loop-line : goal.invariant-loop-line

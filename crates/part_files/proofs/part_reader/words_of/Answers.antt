@@ -1,11 +1,7 @@
-use Rattle.std.specs.Prelude.{codes}
-use Rattle.std.proofs.Common.{◌≢◌, ap, arith, length, sym, ◌∙◌, subst}
-use Rattle.std.proofs.lemmas.Bool.{eqb-false, eqb-true}
-use Rattle.std.proofs.lemmas.List.{append_cancel_left}
-use Rattle.part_files.specs.Cut.{Lacks}
-use Rattle.part_files.proofs.CutTexts.{lacks_not}
+use Rattle.std.{specs.Prelude.codes, proofs.Common.{◌≢◌, ap, arith, length, sym, ◌∙◌, subst}}
+use Rattle.std.proofs.lemmas.{Bool.{eqb-false, eqb-true}, List.append_cancel_left}
+use Rattle.part_files.{specs.Cut.Lacks, proofs.CutTexts.lacks_not, proofs.PartWords.words_read}
 use Rattle.part_files.proofs.PartWords.{rule_on, bench_on, after_model, after_rule, after_bench}
-use Rattle.part_files.proofs.PartWords.{words_read}
 use Rattle.part_files.proofs.part_reader.words_of.Goals as goal
 
 pub returns-in_err-model : goal.returns-in_err-model
@@ -51,13 +47,12 @@ returns-in-Some c = λ w ok e.
     (subst (λ t. Lacks 32 t) (sym same) ok.tests.no_space))
 
 pub returns-in-None : goal.returns-in-None
-returns-in-None c =
-    words_read (record {
-      model = c.in_ok-model.model.now;
-      rule = c.in_ok-rule.rule.now;
-      bench = c.in_ok-bench.bench.now;
-      tests = c.in_ok-tests.tests.now;
-    }) _ _ _ _ c.requires c.in_ok-model.ensures c.in_ok-rule.ensures c.in_ok-bench.ensures
+returns-in-None c = words_read (record {
+  model = c.in_ok-model.model.now;
+  rule = c.in_ok-rule.rule.now;
+  bench = c.in_ok-bench.bench.now;
+  tests = c.in_ok-tests.tests.now;
+}) _ _ _ _ c.requires c.in_ok-model.ensures c.in_ok-rule.ensures c.in_ok-bench.ensures
     c.in_ok-tests.ensures (let some : length c.in_ok-tests.tests.now ≢ 0 =
     eqb-false _ _ (sym c.is_empty.ensures ∙ c.if-is_empty.false) in omega (arith, some))
     c.in-None.ensures

@@ -1,7 +1,5 @@
-use Rattle.std.proofs.Common.{◌<◌, ◌≤◌, length, arith}
-use Rattle.std.proofs.lemmas.Result.{err_from_is_err_and}
-use Rattle.part_files.specs.PartText.{part_line}
-use Rattle.part_files.proofs.PartPieces.{is_verdict_line}
+use Rattle.std.proofs.{Common.{◌<◌, ◌≤◌, length, arith}, lemmas.Result.err_from_is_err_and}
+use Rattle.part_files.{specs.PartText.part_line, proofs.PartPieces.is_verdict_line}
 use Rattle.threaded_lines.proofs.Public.{line_taken, line_stopped, lines_taken}
 use Rattle.part_files.proofs.part_writer.put_verdicts.Goals as goal
 
@@ -26,5 +24,4 @@ pub returns : goal.returns
 returns g c =
     let le : length c.args.list.now.list ≤ c.loop-fault.fault = omega arith in
     (lines_taken (part_line c.args.circuit.now) c.args.list.now.list
-    c.args.verdicts.now c.loop-fault.fault _ _ c.requires.count le
-    c.loop-fault.invariant)
+    c.args.verdicts.now c.loop-fault.fault _ _ c.requires.count le c.loop-fault.invariant)

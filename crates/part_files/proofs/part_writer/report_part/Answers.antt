@@ -1,5 +1,4 @@
-use Rattle.std.proofs.Common.{◌∙◌, ap, length, refl, sym}
-use Rattle.std.proofs.lemmas.Result.{err_from_is_err_and}
+use Rattle.std.proofs.{Common.{◌∙◌, ap, length, refl, sym}, lemmas.Result.err_from_is_err_and}
 use Rattle.fault_model.specs.Fault.{FaultList}
 use Rattle.part_files.specs.PartText.{job_part_text, said_by}
 use Rattle.part_files.proofs.part_writer.report_part.Goals as goal

@@ -1,5 +1,4 @@
-use Rattle.std.proofs.Common.{refl}
-use Rattle.std.specs.Prelude.{count_by}
+use Rattle.std.{proofs.Common.refl, specs.Prelude.count_by}
 use Rattle.std.proofs.lemmas.Result.{err_from_is_err_and}
 use Rattle.byte_output.proofs.Public.{takes_more, stopped, stopped_before, stopped_after}
 use Rattle.part_files.specs.PartText.{end_line, head_line, is_found, is_own, job_part_text, said_by}

@@ -1,7 +1,6 @@
 use Rattle.std.proofs.Common.{◌≡◌, ◌+◌, ◌%◌, ◌<◌, ◌≤◌, ◌++◌, length}
 use Rattle.std.specs.List.{filter_map, enumerate_from}
-use Rattle.patterns.specs.Tests.{max_tests, test_fault}
-use Rattle.patterns.specs.LaterRows.{errors_after, tests_of_rows}
+use Rattle.patterns.specs.{Tests.{max_tests, test_fault}, LaterRows.{errors_after, tests_of_rows}}
 use Rattle.text_lines.specs.Reading.{rows_left}
 use Rattle.patterns.proofs.test_text.read_rows.Given as goal
 

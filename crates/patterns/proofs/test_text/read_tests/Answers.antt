@@ -1,5 +1,4 @@
-use Rattle.std.proofs.Common.{◌≡◌, ◌⊎◌, [], sym, subst}
-use Rattle.std.proofs.lemmas.Result.{IfErr-weaker, IfOk-weaker}
+use Rattle.std.proofs.{Common.{◌≡◌, ◌⊎◌, [], sym, subst}, lemmas.Result.{IfErr-weaker, IfOk-weaker}}
 use Rattle.patterns.specs.declared.TestFault.TheVariants as fault
 use Rattle.text_lines.specs.Reading.{rows_left}
 use Rattle.patterns.specs.LaterRows.{HasTestsAfter, IsRefusalAfter}

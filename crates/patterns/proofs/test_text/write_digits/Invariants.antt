@@ -1,5 +1,4 @@
-use Rattle.std.proofs.Common.{◌≡◌, ℕ, ◌+◌, ◌<◌, ◌≤◌, ◌==◌, ◌⊎◌, get_or}
-use Rattle.std.specs.Int.{bit_at}
+use Rattle.std.{proofs.Common.{◌≡◌, ℕ, ◌+◌, ◌<◌, ◌≤◌, ◌==◌, ◌⊎◌, get_or}, specs.Int.bit_at}
 use Rattle.patterns.specs.Making.{digit}
 use Rattle.patterns.proofs.test_text.write_digits.Given as goal
 

@@ -19,16 +19,14 @@ loop-class-preserved c =
     let was = c.loop-class.invariant in
     let next = λ (v : Vec ℕ Global). AreOwnUpTo job parts part classes (n + 1) v.items in
     elim c.if-stem_of_class-parts.branch [
-      | then-stem_of_class-parts+in_ok-push w ↦
-          subst next (sym w.own-is)
+      | then-stem_of_class-parts+in_ok-push w ↦ subst next (sym w.own-is)
           (subst (AreOwnUpTo job parts part classes (n + 1)) (sym w.in_ok-push.ensures.items)
           (own_more job parts part classes n class c.loop-class.own.items was at (
             stem,
             c.stem_of_class.ensures.stem,
             sym w.if-stem_of_class-parts.true,
           )))
-      | else-stem_of_class-parts w ↦
-          subst next (sym w.own-is)
+      | else-stem_of_class-parts w ↦ subst next (sym w.own-is)
           (own_past job parts part classes n class c.loop-class.own.items was at
           (λ of. w.if-stem_of_class-parts.false
           (sym (part_of_stem job parts part class stem c.stem_of_class.ensures.stem of))))

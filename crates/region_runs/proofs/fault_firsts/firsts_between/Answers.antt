@@ -1,6 +1,5 @@
-use Rattle.std.proofs.Common.{◌<◌, ◌++◌, ◌∙◌, ◌∷◌, [], ap, arith, get_or, length, map}
-use Rattle.std.proofs.Common.{subst, sym, take, ℕ, List, Option}
-use Rattle.std.specs.Prelude.{slice_get}
+use Rattle.std.proofs.Common.{◌<◌, ◌++◌, ◌∙◌, ◌∷◌, [], ap, arith, get_or, length, map, subst, sym}
+use Rattle.std.{proofs.Common.{take, ℕ, List, Option}, specs.Prelude.slice_get}
 use Rattle.std.proofs.lemmas.List.{length_push}
 use Rattle.fault_model.specs.Collapse.{Collapsed}
 use Rattle.region_runs.specs.FaultFirsts.{AreFirstsFrom, first_at}
@@ -66,8 +65,7 @@ returns-clause-firsts c =
     subst (λ (l : List ℕ). AreFirstsFrom class_of l c.args.ordered.now.firsts.items start found)
     c.as_slice-positions.ensures.value
     (subst (λ (l : List (Option ℕ)). AreFirstsFrom class_of positions l start found)
-    c.as_slice-firsts.ensures.value
-    (record {
+    c.as_slice-firsts.ensures.value (record {
       within = omega (
         arith,
         was.count,

@@ -6,6 +6,5 @@ abbrev pub invariant-loop-fault : goal.invariant-loop-fault
 invariant-loop-fault l = record {
   count : l.start + length l.found.items ≡ l.fault;
   follow : map (first_at l.positions l.firsts) (take l.start l.job.classes.class_of)
-      ++ l.found.items
-      ≡ map (first_at l.positions l.firsts) (take l.fault l.job.classes.class_of);
+      ++ l.found.items ≡ map (first_at l.positions l.firsts) (take l.fault l.job.classes.class_of);
 }

@@ -44,8 +44,7 @@ loop-share-preserved c =
             (subst (AreFirstsFrom class_of positions firsts 0) (sym w.in_ok-append.ensures.items)
             (firsts_append class_of positions firsts before more c.in_ok-start.start was.firsts long
             there))
-        | else-start-len w ↦
-            subst (λ (v : Vec (Option ℕ) Global).
+        | else-start-len w ↦ subst (λ (v : Vec (Option ℕ) Global).
             AreFirstsFrom class_of positions firsts 0 v.items) (sym w.all-is) was.firsts
       ];
     }
@@ -67,8 +66,7 @@ returns c =
     firsts_whole job positions firsts all
     (subst (AreFirstsFrom job.classes.class_of positions firsts 0) (sym whole)
     (firsts_append job.classes.class_of positions firsts before rest c.len-2.result
-    c.loop-share.invariant.firsts long c.in_ok-rest.ensures.firsts))
-    (omega (
+    c.loop-share.invariant.firsts long c.in_ok-rest.ensures.firsts)) (omega (
       arith,
       ap (λ (l : List (Option ℕ)). length l) whole,
       length-append before rest,

@@ -1,5 +1,4 @@
-use Rattle.std.proofs.Common.{◌<◌, ℕ, get_or}
-use Rattle.std.specs.Vec.Iter.{into_iter_items, into_iter_len}
+use Rattle.std.{proofs.Common.{◌<◌, ℕ, get_or}, specs.Vec.Iter.{into_iter_items, into_iter_len}}
 use Rattle.region_runs.specs.FaultFirsts.{AreFirstsFrom, HasFirsts}
 use Rattle.region_runs.proofs.fault_firsts.join_firsts.Given as goal
 

@@ -1,8 +1,5 @@
-use Rattle.std.proofs.Common.{length}
-use Rattle.std.proofs.lemmas.Result.{err_from_is_err_and}
-use Rattle.region_runs.specs.Part.{stretch_size}
-use Rattle.region_runs.specs.StretchRuns.{GoalWaitsFor}
-use Rattle.region_runs.specs.Tasks.{task_of}
+use Rattle.std.proofs.{Common.length, lemmas.Result.err_from_is_err_and}
+use Rattle.region_runs.specs.{Part.stretch_size, StretchRuns.GoalWaitsFor, Tasks.task_of}
 use Rattle.region_runs.proofs.RunRefusals.{run_fault}
 use Rattle.region_runs.proofs.goal_run.run_goal.Goals as goal
 

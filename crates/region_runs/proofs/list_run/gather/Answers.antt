@@ -1,6 +1,5 @@
 use Rattle.std.proofs.Common.{◌∙◌, sym, subst}
-use Rattle.region_runs.specs.StretchRuns.{IsLowest, WaitsIn, runs_from}
-use Rattle.region_runs.specs.Tasks.{task_of}
+use Rattle.region_runs.specs.{StretchRuns.{IsLowest, WaitsIn, runs_from}, Tasks.task_of}
 use Rattle.region_runs.proofs.RunsOfStretches.{all_lowest, none_whole, stretches_wait, whole_kept}
 use Rattle.region_runs.proofs.SharedStretches.{by_stretches, face_finish, finished_whole}
 use Rattle.region_runs.proofs.SharedStretches.{found_by_stretch, whole_finished}

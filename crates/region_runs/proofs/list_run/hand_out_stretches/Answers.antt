@@ -1,7 +1,6 @@
 use Rattle.std.proofs.Common.{◌≡◌, ap, arith}
 use Rattle.fault_ledger.specs.declared.Shape.{Shape}
-use Rattle.region_runs.specs.Stretches.{crew_of}
-use Rattle.region_runs.specs.Tasks.{task_of}
+use Rattle.region_runs.specs.{Stretches.crew_of, Tasks.task_of}
 use Rattle.region_runs.proofs.SharedStretches.{served_placed, shared, shared_at}
 use Rattle.region_runs.proofs.list_run.hand_out_stretches.Goals as goal
 

@@ -1,9 +1,7 @@
 use Rattle.std.proofs.Common.{◌≡◌, ◌+◌, ◌*◌, ◌∙◌, ◌++◌, ◌∷◌, [], ap, append_assoc, arith, length}
-use Rattle.std.proofs.Common.{length-append, subst, sym, refl}
-use Rattle.std.proofs.Math.Nat.{zero-mul}
+use Rattle.std.proofs.{Common.{length-append, subst, sym, refl}, Math.Nat.zero-mul}
 use Rattle.std.specs.Vec.Iter.{into_iter_items}
-use Rattle.region_runs.specs.StretchRuns.{kept_at}
-use Rattle.region_runs.specs.Tasks.{task_of}
+use Rattle.region_runs.specs.{StretchRuns.kept_at, Tasks.task_of}
 use Rattle.region_runs.proofs.PartsOfClasses.{AreKeptBelow, kept_all, kept_more, kept_none}
 use Rattle.region_runs.proofs.ReturnsByStretch.{next_place}
 use Rattle.region_runs.proofs.list_run.joined.Goals as goal
@@ -48,8 +46,7 @@ loop-place-preserved g c =
       left = omega (arith, count, was.left, step.1);
       found = subst (λ n. AreKeptBelow task classes (n * size) c.in_ok-kept-2.kept.items) count
           (subst (AreKeptBelow task classes ((length yielded + 1) * size))
-          (sym (c.in_ok-kept-2.ensures
-          ∙ ap (λ l. c.loop-place.kept.items ++ l) c.kept_of.ensures))
+          (sym (c.in_ok-kept-2.ensures ∙ ap (λ l. c.loop-place.kept.items ++ l) c.kept_of.ensures))
           (kept_more task classes size (length yielded) c.loop-place.kept.items (kept_at place)
           was.found own));
     }

@@ -1,7 +1,6 @@
 use Rattle.std.proofs.Common.{◌≡◌, ◌+◌, ◌*◌, ◌++◌, length}
 use Rattle.std.specs.Vec.Iter.{into_iter_items, into_iter_len}
-use Rattle.region_runs.specs.Tasks.{task_of}
-use Rattle.region_runs.proofs.PartsOfClasses.{AreKeptBelow}
+use Rattle.region_runs.{specs.Tasks.task_of, proofs.PartsOfClasses.AreKeptBelow}
 use Rattle.region_runs.proofs.list_run.joined.Given as goal
 
 abbrev pub invariant-loop-place : goal.invariant-loop-place

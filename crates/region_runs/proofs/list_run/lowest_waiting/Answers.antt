@@ -1,11 +1,8 @@
-use Rattle.std.proofs.Common.{◌≡◌, ◌+◌, ◌∙◌, ◌++◌, ◌∷◌, [], Some, None, length}
-use Rattle.std.proofs.Common.{length-append, arith, ap, append_assoc, subst, sym}
-use Rattle.std.specs.Vec.Iter.{into_iter_items}
+use Rattle.std.proofs.Common.{◌≡◌, ◌+◌, ◌∙◌, ◌++◌, ◌∷◌, [], Some, None, length, length-append}
+use Rattle.std.{proofs.Common.{arith, ap, append_assoc, subst, sym}, specs.Vec.Iter.into_iter_items}
 use Rattle.region_runs.specs.StretchRuns.{IsLowest, IsLowestIn, WaitsIn, run_at, runs_from}
-use Rattle.region_runs.specs.Part.{stretch_at}
-use Rattle.region_runs.specs.Tasks.{task_of}
-use Rattle.region_runs.proofs.ReturnsByStretch.{next_place}
-use Rattle.region_runs.proofs.RunsOfStretches.{runs_push, waits_more}
+use Rattle.region_runs.specs.{Part.stretch_at, Tasks.task_of}
+use Rattle.region_runs.proofs.{ReturnsByStretch.next_place, RunsOfStretches.{runs_push, waits_more}}
 use Rattle.region_runs.proofs.list_run.lowest_waiting.Goals as goal
 
 pub loop-place-init : goal.loop-place-init
@@ -45,9 +42,7 @@ loop-place-preserved g c =
     let here : c.loop-place.stretch ≡ 0 + length c.loop-place.yielded = omega (arith, was.count) in
     let own : IsLowestIn task run c.in_ok-waiting.waiting =
     subst (λ n. IsLowestIn task (run_at c.args.cut.now.from (stretch_at size classes n) place)
-    c.in_ok-waiting.waiting)
-    here
-    c.in_ok-waiting.ensures in
+    c.in_ok-waiting.waiting) here c.in_ok-waiting.ensures in
     record {
       order = append_assoc c.loop-place.yielded (place ∷ []) rest ∙ order;
       count = omega (arith, length-append c.loop-place.yielded (place ∷ []), was.count);
@@ -55,7 +50,6 @@ loop-place-preserved g c =
       lowest = subst (λ rs. IsLowest (WaitsIn task rs) c.lower_of-lowest.result)
           (sym (runs_push c.args.cut.now.from size classes 0 c.loop-place.yielded place))
           (waits_more task (runs_from c.args.cut.now.from size classes 0 c.loop-place.yielded) run
-          c.loop-place.lowest
-          c.in_ok-waiting.waiting c.lower_of-lowest.result was.lowest own
+          c.loop-place.lowest c.in_ok-waiting.waiting c.lower_of-lowest.result was.lowest own
           c.lower_of-lowest.ensures);
     }

@@ -1,5 +1,4 @@
-use Rattle.std.proofs.Common.{◌≡◌, ◌++◌}
-use Rattle.std.specs.Vec.Iter.{into_iter_items}
+use Rattle.std.{proofs.Common.{◌≡◌, ◌++◌}, specs.Vec.Iter.into_iter_items}
 use Rattle.region_runs.specs.StretchRuns.{ArePut}
 use Rattle.region_runs.proofs.list_run.put_by_stretch.Given as goal
 

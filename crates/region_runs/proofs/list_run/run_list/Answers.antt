@@ -1,9 +1,6 @@
-use Rattle.std.proofs.Common.{◌≡◌, ◌∙◌, ap, length, subst}
-use Rattle.std.proofs.lemmas.Result.{err_from_is_err_and}
-use Rattle.region_runs.specs.Part.{stretch_size, stretches_for}
-use Rattle.region_runs.specs.Stretches.{AreByStretches}
-use Rattle.region_runs.specs.Tasks.{AreKept, task_of}
-use Rattle.region_runs.proofs.RunRefusals.{list_fault}
+use Rattle.std.proofs.{Common.{◌≡◌, ◌∙◌, ap, length, subst}, lemmas.Result.err_from_is_err_and}
+use Rattle.region_runs.specs.{Part.{stretch_size, stretches_for}, Stretches.AreByStretches}
+use Rattle.region_runs.{specs.Tasks.{AreKept, task_of}, proofs.RunRefusals.list_fault}
 use Rattle.region_runs.proofs.list_run.run_list.Goals as goal
 
 pub returns-clause-kept : goal.returns-clause-kept

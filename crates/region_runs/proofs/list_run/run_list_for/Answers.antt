@@ -1,10 +1,6 @@
-use Rattle.std.proofs.Common.{subst}
-use Rattle.std.proofs.lemmas.Result.{err_from_is_err_and}
-use Rattle.region_runs.specs.Cut.{IsCutOf}
-use Rattle.region_runs.specs.Stretches.{AreByStretches}
-use Rattle.region_runs.specs.Tasks.{AreKept, task_of}
-use Rattle.region_runs.proofs.RunRefusals.{fault_under}
-use Rattle.region_runs.proofs.SharedStretches.{stretches_under}
+use Rattle.std.proofs.{Common.subst, lemmas.Result.err_from_is_err_and}
+use Rattle.region_runs.specs.{Cut.IsCutOf, Stretches.AreByStretches, Tasks.{AreKept, task_of}}
+use Rattle.region_runs.proofs.{RunRefusals.fault_under, SharedStretches.stretches_under}
 use Rattle.region_runs.proofs.list_run.run_list_for.Goals as goal
 
 pub gather-requires-clause-wanted : goal.gather-requires-clause-wanted

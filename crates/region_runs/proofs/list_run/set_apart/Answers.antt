@@ -1,8 +1,6 @@
-use Rattle.std.specs.Prelude.{Ok}
+use Rattle.std.specs.{Prelude.Ok, Vec.Iter.into_iter_items}
 use Rattle.std.proofs.Common.{◌∙◌, ◌++◌, ◌∷◌, [], sym, ap, append_assoc, refl, subst}
-use Rattle.std.specs.Vec.Iter.{into_iter_items}
-use Rattle.region_runs.specs.Stretches.{AreApart}
-use Rattle.region_runs.proofs.ReturnsByStretch.{apart_more, apart_none}
+use Rattle.region_runs.{specs.Stretches.AreApart, proofs.ReturnsByStretch.{apart_more, apart_none}}
 use Rattle.region_runs.proofs.list_run.set_apart.Goals as goal
 
 pub loop-one-init : goal.loop-one-init

@@ -1,5 +1,4 @@
-use Rattle.std.proofs.Common.{◌≡◌, ◌++◌}
-use Rattle.std.specs.Vec.Iter.{into_iter_items}
+use Rattle.std.{proofs.Common.{◌≡◌, ◌++◌}, specs.Vec.Iter.into_iter_items}
 use Rattle.region_runs.specs.Stretches.{AreApart}
 use Rattle.region_runs.proofs.list_run.set_apart.Given as goal
 

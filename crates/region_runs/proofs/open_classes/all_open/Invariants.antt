@@ -1,5 +1,4 @@
-use Rattle.std.proofs.Common.{◌≡◌, ◌+◌, ℕ}
-use Rattle.std.specs.Prelude.{Some, slice_get, vec_len}
+use Rattle.std.{proofs.Common.{◌≡◌, ◌+◌, ℕ}, specs.Prelude.{Some, slice_get, vec_len}}
 use Rattle.region_runs.proofs.open_classes.all_open.Given as goal
 
 abbrev pub invariant-loop-place : goal.invariant-loop-place

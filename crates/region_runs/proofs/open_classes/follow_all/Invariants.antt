@@ -1,5 +1,4 @@
-use Rattle.std.proofs.Common.{◌≡◌, ◌+◌, ◌<◌, ℕ, length}
-use Rattle.std.specs.Prelude.{Some, slice_get}
+use Rattle.std.{proofs.Common.{◌≡◌, ◌+◌, ◌<◌, ℕ, length}, specs.Prelude.{Some, slice_get}}
 use Rattle.region_runs.proofs.open_classes.follow_all.Given as goal
 
 abbrev pub invariant-loop-place : goal.invariant-loop-place

@@ -1,12 +1,9 @@
 use Rattle.std.proofs.Common.{◌≡◌, ◌<◌, ◌∙◌, All, List, ap, get_or, length, map, subst, sym, ℕ}
 use Rattle.std.proofs.lemmas.Result.{err_from_is_err_and}
 use Rattle.fault_model.specs.Collapse.{Collapsed}
-use Rattle.region_runs.specs.declared.parts.PartVerdict.{PartVerdict}
-use Rattle.region_runs.specs.declared.parts.PartVerdict.TheVariants.{OtherPart}
-use Rattle.region_runs.specs.Part.{stretches_for}
-use Rattle.region_runs.specs.RunJobs.{RunView}
-use Rattle.region_runs.proofs.FirstHits.{firsts_kept}
-use Rattle.region_runs.proofs.RunRefusals.{part_fault}
+use Rattle.region_runs.specs.declared.parts.PartVerdict.{PartVerdict, TheVariants.OtherPart}
+use Rattle.region_runs.specs.{Part.stretches_for, RunJobs.RunView}
+use Rattle.region_runs.proofs.{FirstHits.firsts_kept, RunRefusals.part_fault}
 use Rattle.region_runs.proofs.PartsInView.{part_by_ledgers, part_in_view}
 use Rattle.region_runs.proofs.PartsOfClasses.{part_verdict_there, part_verdicts, part_within}
 use Rattle.region_runs.proofs.PartsOfClasses.{verdicts_under}

@@ -2,8 +2,7 @@ use Rattle.std.proofs.Common.{◌∙◌, ◌+◌, ◌++◌, ◌∷◌, [], ℕ, 
 use Rattle.std.specs.Prelude.{slice_get}
 use Rattle.fault_model.specs.Collapse.{Collapsed}
 use Rattle.workers.proofs.Public.{take_more}
-use Rattle.region_runs.specs.declared.parts.PartVerdict.{PartVerdict}
-use Rattle.region_runs.specs.declared.parts.PartVerdict.TheVariants.{OtherPart}
+use Rattle.region_runs.specs.declared.parts.PartVerdict.{PartVerdict, TheVariants.OtherPart}
 use Rattle.region_runs.proofs.parts.of_faults.Goals as goal
 
 pub loop-fault-preserved : goal.loop-fault-preserved

@@ -1,7 +1,5 @@
-use Rattle.std.proofs.Common.{◌≡◌, ◌<◌, ◌≤◌, ◌+◌, ◌*◌, ◌∙◌, ℕ, zero, suc, List, []}
-use Rattle.std.proofs.Common.{ap, arith, get_or}
-use Rattle.std.proofs.Common.{inl, length, refl, sym}
-use Rattle.std.proofs.lemmas.List.{ext_get_or}
+use Rattle.std.proofs.Common.{◌≡◌, ◌<◌, ◌≤◌, ◌+◌, ◌*◌, ◌∙◌, ℕ, zero, suc, List, [], ap, arith}
+use Rattle.std.proofs.{Common.{get_or, inl, length, refl, sym}, lemmas.List.ext_get_or}
 use Rattle.std.proofs.lemmas.Option.{slice_get-get_or, slice_get_within}
 use Rattle.std.specs.Prelude.{slice_get, unwrap_or}
 use Rattle.fault_model.specs.Solution.{Test}
@@ -44,12 +42,7 @@ whole tests window end le of =
 pub take_window-requires-clause-window : goal.take_window-requires-clause-window
 take_window-requires-clause-window g c = (
   0,
-  record {
-    first_is = refl;
-    some = omega arith;
-    within = omega arith;
-    before = inl (refl, refl);
-  },
+  record { first_is = refl; some = omega arith; within = omega arith; before = inl (refl, refl) },
 )
 
 pub returns-in-Ok-clause-taken : goal.returns-in-Ok-clause-taken

@@ -1,6 +1,5 @@
 use Rattle.std.proofs.Common.{Ok, ap, subst}
-use Rattle.fault_ledger.specs.declared.Event.{Event}
-use Rattle.fault_ledger.specs.declared.Reply.TheVariants.{Claimed}
+use Rattle.fault_ledger.specs.declared.{Event.Event, Reply.TheVariants.Claimed}
 use Rattle.fault_ledger.specs.Seats.{Makes}
 use Rattle.region_runs.proofs.StretchSeats.{claims_stretch}
 use Rattle.region_runs.proofs.stretch_workers.claim_next.Goals as goal

@@ -1,8 +1,6 @@
 use Rattle.std.proofs.Common.{◌<◌, ◌∙◌, All, None, arith, eqb-true, length, subst, sym}
-use Rattle.region_runs.specs.StretchRuns.{AreKeptUpTo, IsLowestIn, unbegun_run}
-use Rattle.region_runs.specs.Tasks.{task_of}
-use Rattle.region_runs.proofs.ClaimedStretches.{starts_kept}
-use Rattle.region_runs.proofs.PartsOfClasses.{stretch_within}
+use Rattle.region_runs.specs.{StretchRuns.{AreKeptUpTo, IsLowestIn, unbegun_run}, Tasks.task_of}
+use Rattle.region_runs.proofs.{ClaimedStretches.starts_kept, PartsOfClasses.stretch_within}
 use Rattle.region_runs.proofs.RunsOfStretches.{unbegun_empty, unbegun_lowest}
 use Rattle.region_runs.proofs.stretch_workers.not_begun.Goals as goal
 

@@ -1,6 +1,5 @@
 use Rattle.std.proofs.Common.{◌≡◌, ◌<◌, ◌+◌, ◌∙◌, [], ◌∷◌, Some, ap, arith, get_or, length}
-use Rattle.std.proofs.Common.{length-append, rules, subst, suc, sym}
-use Rattle.std.specs.Prelude.{slice_get}
+use Rattle.std.{proofs.Common.{length-append, rules, subst, suc, sym}, specs.Prelude.slice_get}
 use Rattle.std.specs.Vec.Iter.{into_iter_items, into_iter_len}
 use Rattle.std.proofs.lemmas.Option.{slice_get_within}
 use Rattle.fault_ledger.specs.Seats.{newcomer}
@@ -49,12 +48,10 @@ loop-seat-preserved g c =
     ap length items ∙ length-append back (c.serve.result ∷ []) in
     record {
       count = omega (arith, grown, was.count, step.1);
-      left = λ k d lt.
-          sym (ap (λ l. get_or l (suc k) d) step.0)
+      left = λ k d lt. sym (ap (λ l. get_or l (suc k) d) step.0)
           ∙ was.left (suc k) d (omega (arith, lt, step.1))
           ∙ ap (newcomer c.args.ledger.now) (omega (arith, grown));
-      each = λ w one e.
-          served_more (task_of c.args.job.now c.args.cut.now.from
+      each = λ w one e. served_more (task_of c.args.job.now c.args.cut.now.from
           (g.A.Goal.wants c.args.goal.now) (g.A.Goal.means c.args.goal.now))
           c.args.cut.now.size c.args.cut.now.classes.items c.args.ledger.now
           (g.G.Gate.passing c.args.gate.now) (g.G.Gate.stops c.args.gate.now) back c.serve.result
@@ -65,7 +62,4 @@ loop-seat-preserved g c =
 pub returns : goal.returns
 returns g c =
     let was = c.loop-seat.invariant in
-    record {
-      count = omega (arith, was.count, c.in-None.ensures);
-      each = was.each;
-    }
+    record { count = omega (arith, was.count, c.in-None.ensures); each = was.each }

@@ -1,9 +1,7 @@
 use Rattle.std.proofs.Common.{◌≡◌, ◌<◌, ◌+◌, ℕ, Some, get_or, length}
-use Rattle.std.specs.Prelude.{IfOk, slice_get}
-use Rattle.std.specs.Vec.Iter.{into_iter_items, into_iter_len}
+use Rattle.std.specs.{Prelude.{IfOk, slice_get}, Vec.Iter.{into_iter_items, into_iter_len}}
 use Rattle.fault_ledger.specs.Seats.{newcomer}
-use Rattle.region_runs.specs.Stretches.{HasServed}
-use Rattle.region_runs.specs.Tasks.{task_of}
+use Rattle.region_runs.specs.{Stretches.HasServed, Tasks.task_of}
 use Rattle.region_runs.proofs.stretch_workers.serve_here.Given as goal
 
 -- the seats that are left are those from the number of the results on, and each result is its

@@ -1,13 +1,10 @@
 use Rattle.std.proofs.Common.{◌∙◌, ◌++◌, ◌∷◌, [], subst, sym}
-use Rattle.region_runs.specs.StretchRuns.{IsDone}
-use Rattle.region_runs.specs.Stretches.{HasServed}
-use Rattle.region_runs.specs.Tasks.{task_of}
+use Rattle.region_runs.specs.{StretchRuns.IsDone, Stretches.HasServed, Tasks.task_of}
 use Rattle.region_runs.proofs.StretchSeats.{Serving, fewer_left, none_of, served_all}
-use Rattle.region_runs.proofs.StretchSeats.{served_stopped}
-use Rattle.region_runs.proofs.StretchSeats.{serving_free, serving_more, some_of}
+use Rattle.region_runs.proofs.StretchSeats.{served_stopped, serving_free, serving_more, some_of}
+use Rattle.region_runs.proofs.stretch_workers.serve_seat.Goals.{In_ok-push}
 use Rattle.region_runs.proofs.stretch_workers.serve_seat.Given as given
 use Rattle.region_runs.proofs.stretch_workers.serve_seat.Goals as goal
-use Rattle.region_runs.proofs.stretch_workers.serve_seat.Goals.{In_ok-push}
 
 -- the results of a worker with one stretch more
 more : (g : given.Over) (c : In_ok-push g) → Serving (task_of c.args.job.now c.args.cut.now.from
@@ -40,8 +37,7 @@ returns-then-stopped g c =
     (more g (goal.at.returns-then-stopped g c).In_ok-push))
 
 pub claims-smaller : goal.claims-smaller
-claims-smaller g c =
-    fewer_left c.claims.seat c.claim_next.new.seat c.run_held.new.seat _ _
+claims-smaller g c = fewer_left c.claims.seat c.claim_next.new.seat c.run_held.new.seat _ _
     c.in_ok-done.done.waiting c.claims.invariant.serving.place_is
     (more g (goal.at.claims-smaller g c).In_ok-push).legal c.in-Some.ensures.claimed
     c.in_ok-done.ensures.after

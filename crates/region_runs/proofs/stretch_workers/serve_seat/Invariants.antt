@@ -1,8 +1,7 @@
 use Rattle.std.proofs.Common.{◌≡◌, ◌-◌, None}
 use Rattle.region_sim.specs.RegionHits.{ServesRegions}
 use Rattle.fault_ledger.specs.History.{claims, held_by, piece_count}
-use Rattle.region_runs.specs.Tasks.{task_of}
-use Rattle.region_runs.proofs.StretchSeats.{Serving}
+use Rattle.region_runs.{specs.Tasks.task_of, proofs.StretchSeats.Serving}
 use Rattle.region_runs.proofs.stretch_workers.serve_seat.Given as goal
 
 abbrev pub invariant-claims : goal.invariant-claims

@@ -1,5 +1,4 @@
-use Rattle.std.specs.Prelude.{slice_index_or}
-use Rattle.std.proofs.lemmas.Option.{slice_get-get_or}
+use Rattle.std.{specs.Prelude.slice_index_or, proofs.lemmas.Option.slice_get-get_or}
 use Rattle.flat_circuit.proofs.Public.{set_here}
 use Rattle.region_runs.proofs.window_goal.join_at.Goals as goal
 

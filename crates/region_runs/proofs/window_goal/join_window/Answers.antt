@@ -36,8 +36,7 @@ loop-place-preserved g c =
     c.index-kept-place.is on in
     joined_more _ _ _ _ _ c.loop-place.kept c.loop-place.place _ c.index-kept-place.result
     c.loop-place.invariant (omega (arith, c.loop-place-test.true)) c.index-kept-place.is later
-    c.join_at.new.kept on
-    (slice_get-get_or c.args.found.now c.loop-place.next later
+    c.join_at.new.kept on (slice_get-get_or c.args.found.now c.loop-place.next later
     (omega (arith, low, c.requires.found)) ∙ ap Some (sym c.index-found-next.is))
     c.join_at.ensures.places c.join_at.ensures.others c.join_at.ensures.joined
 

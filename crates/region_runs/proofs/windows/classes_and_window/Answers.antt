@@ -1,5 +1,4 @@
-use Rattle.std.proofs.Common.{◌∙◌, List, ap, length, subst, ℕ}
-use Rattle.std.specs.Prelude.{IfOk}
+use Rattle.std.{proofs.Common.{◌∙◌, List, ap, length, subst, ℕ}, specs.Prelude.IfOk}
 use Rattle.counting_sort.specs.SortedPlaces.{ArePositions, AreSortedPlaces}
 use Rattle.region_sim.proofs.Public.{all_in_order}
 use Rattle.region_runs.proofs.windows.classes_and_window.Goals as goal
@@ -11,8 +10,7 @@ returns-clause-classes g c =
     subst (λ r. IfOk r (λ sorted. AreSortedPlaces c.deref.result.now sorted.places.items))
     c.in_ok-places.was c.sort_and_take-sorted.ensures.sorted in
     all_in_order c.args.job.now c.in_ok-visits.visits.items classes c.in_ok-visits.ensures.visits
-    (subst (λ (l : List ℕ). AreSortedPlaces l classes) c.deref.ensures.value
-    sorted)
+    (subst (λ (l : List ℕ). AreSortedPlaces l classes) c.deref.ensures.value sorted)
 
 pub returns-clause-count : goal.returns-clause-count
 returns-clause-count g c =

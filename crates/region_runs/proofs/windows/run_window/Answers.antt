@@ -1,11 +1,9 @@
 use Rattle.std.proofs.Common.{◌≡◌, ◌<◌, ◌*◌, ◌-◌, ◌∙◌, [], All, List, ap, arith, length, refl}
-use Rattle.std.proofs.Common.{subst, sym, ℕ}
-use Rattle.std.proofs.lemmas.Bool.{eqb-true}
+use Rattle.std.proofs.{Common.{subst, sym, ℕ}, lemmas.Bool.eqb-true}
 use Rattle.std.proofs.lemmas.List.{nil_from_length, with_items_is}
 use Rattle.std.specs.Prelude.{count_by, vec_len}
 use Rattle.block_sim.specs.Parts.{BelongTogether, Parts, with_tests}
-use Rattle.region_runs.specs.Joins.{AreJoined}
-use Rattle.region_runs.specs.Tasks.{AreKept, IsSound, task_of}
+use Rattle.region_runs.specs.{Joins.AreJoined, Tasks.{AreKept, IsSound, task_of}}
 use Rattle.region_runs.specs.WindowLedgers.{AreFoundByLedger, AreOfWindows, HasRunWindow, goes_on}
 use Rattle.region_runs.specs.WindowLedgers.{open_classes, settled, window_task}
 use Rattle.region_runs.specs.Windows.{AreKeptBelow}
@@ -27,8 +25,7 @@ pub returns-then-is_empty-clause-kept : goal.returns-then-is_empty-clause-kept
 returns-then-is_empty-clause-kept g c =
     let goal = c.args.goal.now in
     let wants = g.A.Goal.wants goal in
-    let task = task_of (with_tests c.args.job.now c.args.tests.now) 0 wants
-    (g.A.Goal.means goal) in
+    let task = task_of (with_tests c.args.job.now c.args.tests.now) 0 wants (g.A.Goal.means goal) in
     let sound : IsSound task = record {
       agrees = g.A.Goal.agrees goal;
       stays = g.A.Goal.stays goal;
@@ -158,8 +155,7 @@ returns-clause-ledgers g c = λ of.
       found = found;
       ledger = ledger.0;
       by = subst (λ l. AreFoundByLedger (window_task task some window) c.args.workers l found
-          ledger.0) is
-          (subst (λ (j : Parts). AreFoundByLedger
+          ledger.0) is (subst (λ (j : Parts). AreFoundByLedger
           (task_of j (window.first - window.from) wants means) c.args.workers left found ledger.0)
           set ledger.1);
       joined = joined;

@@ -1,11 +1,9 @@
-use Rattle.std.proofs.Common.{◌≡◌, ◌<◌, ◌+◌, ◌*◌, ◌∙◌, All, ap, arith, length, min}
-use Rattle.std.proofs.Common.{refl, subst, sym}
+use Rattle.std.proofs.Common.{◌≡◌, ◌<◌, ◌+◌, ◌*◌, ◌∙◌, All, ap, arith, length, min, refl, subst}
+use Rattle.std.proofs.Common.{sym}
 use Rattle.bench_net.specs.Scan.{sources}
 use Rattle.block_sim.specs.Parts.{Parts, with_tests}
-use Rattle.region_runs.specs.Tasks.{task_of}
-use Rattle.region_runs.specs.WindowLedgers.{AreOfWindows, begins}
-use Rattle.region_runs.specs.Windows.{AreKeptBelow}
-use Rattle.region_runs.proofs.WindowValues.{values_begin, values_end}
+use Rattle.region_runs.specs.{Tasks.task_of, WindowLedgers.{AreOfWindows, begins}}
+use Rattle.region_runs.{specs.Windows.AreKeptBelow, proofs.WindowValues.{values_begin, values_end}}
 use Rattle.region_runs.proofs.WindowSteps.{step_all, step_first, step_within}
 use Rattle.region_runs.proofs.windows.run_windows.Goals as goal
 
@@ -18,14 +16,12 @@ loop-number-init g c =
     let goal = c.args.goal.now in
     let task = task_of (with_tests job c.args.tests.now) 0 (g.A.Goal.wants goal)
     (g.A.Goal.means goal) in
-    let none : 64 * min (0 * c.args.step) c.blocks-blocks.result ≡ 0 =
-    omega arith in
+    let none : 64 * min (0 * c.args.step) c.blocks-blocks.result ≡ 0 = omega arith in
     let zero_low : min (0 * c.args.step) c.blocks-blocks.result ≡ 0 = omega arith in
     record {
       job = (job.tests, refl);
       untouched = λ _. refl;
-      kept = subst (λ n. AreKeptBelow task n c.args.classes.now c.in_ok-kept.kept.items)
-          (sym none)
+      kept = subst (λ n. AreKeptBelow task n c.args.classes.now c.in_ok-kept.kept.items) (sym none)
           (values_begin task c.args.classes.now c.in_ok-kept.kept.items
           (omega (arith, c.in_ok-kept.ensures.count)) c.in_ok-kept.ensures.first);
       ledgers = subst (λ n. AreOfWindows task c.args.workers c.args.classes.now n
@@ -36,22 +32,19 @@ loop-number-init g c =
 
 pub new-window-requires-clause-within : goal.new-window-requires-clause-within
 new-window-requires-clause-within g c =
-    step_within c.blocks-blocks.result c.args.step c.loop-number.number
-    c.requires.step.0
+    step_within c.blocks-blocks.result c.args.step c.loop-number.number c.requires.step.0
     (subst (λ n. c.loop-number.number < n) c.div_ceil-number-end.ensures c.loop-number-test.true)
 
 pub run_window-requires-clause-width : goal.run_window-requires-clause-width
-run_window-requires-clause-width g c κs within =
-    c.requires.width
+run_window-requires-clause-width g c κs within = c.requires.width
     ∙ ap (λ (j : Parts). length (sources j.circuit)) (sym c.loop-number.invariant.job.1)
 
 pub run_window-requires-clause-few : goal.run_window-requires-clause-few
-run_window-requires-clause-few g c κs within =
-    omega (
-      arith,
-      c.requires.few,
-      ap (λ (j : Parts). length j.classes.representative) c.loop-number.invariant.job.1,
-    )
+run_window-requires-clause-few g c κs within = omega (
+  arith,
+  c.requires.few,
+  ap (λ (j : Parts). length j.classes.representative) c.loop-number.invariant.job.1,
+)
 
 pub run_window-requires-clause-within : goal.run_window-requires-clause-within
 run_window-requires-clause-within g c κs within =
@@ -89,8 +82,7 @@ loop-number-preserved g c =
     let next : number * step + step ≡ (number + 1) * step = omega arith in
     let end : c.new-window.result.end ≡ min ((number + 1) * step) c.blocks-blocks.result =
     c.new-window.ensures.end ∙ ap (λ n. min n c.blocks-blocks.result) next in
-    let below = step_within c.blocks-blocks.result step number
-    c.requires.step.0
+    let below = step_within c.blocks-blocks.result step number c.requires.step.0
     (subst (λ n. number < n) c.div_ceil-number-end.ensures c.loop-number-test.true) in
     let first = step_first c.blocks-blocks.result step number below
     ∙ sym c.new-window.ensures.window.first_is in
@@ -132,11 +124,7 @@ returns-clause-kept g c =
     let task = task_of (with_tests c.args.job.now c.args.tests.now) 0 (g.A.Goal.wants goal)
     (g.A.Goal.means goal) in
     let all = step_all c.blocks-blocks.result c.args.step c.loop-number.number
-    c.requires.step.0 (omega (
-      arith,
-      c.loop-number-test.false,
-      c.div_ceil-number-end.ensures,
-    )) in
+    c.requires.step.0 (omega (arith, c.loop-number-test.false, c.div_ceil-number-end.ensures)) in
     values_end task c.args.classes.now c.loop-number.kept.items refl
     (subst (λ n. AreKeptBelow task (64 * n) c.args.classes.now c.loop-number.kept.items)
     (all ∙ c.blocks-blocks.ensures) c.loop-number.invariant.kept)
@@ -153,12 +141,7 @@ pub returns-clause-ledgers : goal.returns-clause-ledgers
 returns-clause-ledgers g c =
     let goal = c.args.goal.now in
     let all = step_all c.blocks-blocks.result c.args.step c.loop-number.number
-    c.requires.step.0 (omega (
-      arith,
-      c.loop-number-test.false,
-      c.div_ceil-number-end.ensures,
-    )) in
+    c.requires.step.0 (omega (arith, c.loop-number-test.false, c.div_ceil-number-end.ensures)) in
     subst (λ n. AreOfWindows (task_of (with_tests c.args.job.now c.args.tests.now) 0
     (g.A.Goal.wants goal) (g.A.Goal.means goal)) c.args.workers c.args.classes.now n
-    c.loop-number.kept.items) (all ∙ c.blocks-blocks.ensures)
-    c.loop-number.invariant.ledgers
+    c.loop-number.kept.items) (all ∙ c.blocks-blocks.ensures) c.loop-number.invariant.ledgers

@@ -1,6 +1,5 @@
 use Rattle.std.proofs.Common.{◌≡◌, ◌-◌, arith, subst, sym}
-use Rattle.region_runs.specs.Windows.{AreWordsFrom}
-use Rattle.region_runs.proofs.WindowWords.{begins_before, words_none}
+use Rattle.region_runs.{specs.Windows.AreWordsFrom, proofs.WindowWords.{begins_before, words_none}}
 use Rattle.region_runs.proofs.windows.tests_of.Goals as goal
 
 pub loop-block-init : goal.loop-block-init

@@ -1,6 +1,5 @@
 use Rattle.std.proofs.Common.{◌≡◌, ◌⊎◌, ◌<◌, ◌≤◌, ◌+◌, ◌-◌, ◌*◌, ◌/◌, arith, inl, inr}
-use Rattle.std.proofs.lemmas.Bool.{cases_lt}
-use Rattle.std.proofs.Math.Nat.{mul-div-le, mul-le-mul}
+use Rattle.std.proofs.{lemmas.Bool.cases_lt, Math.Nat.{mul-div-le, mul-le-mul}}
 use Rattle.region_runs.proofs.windows.window_blocks.Goals as goal
 
 pub returns-clause-fit : goal.returns-clause-fit

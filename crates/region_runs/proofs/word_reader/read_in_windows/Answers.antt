@@ -1,8 +1,7 @@
 use Rattle.std.proofs.Common.{◌≡◌, ◌<◌, ◌+◌, ◌*◌, ◌∙◌, ap, arith, length, min, refl, subst, sym}
 use Rattle.bench_net.specs.Scan.{sources}
 use Rattle.block_sim.specs.Parts.{Parts, with_tests}
-use Rattle.region_runs.specs.Windows.{GoesOnFrom}
-use Rattle.region_runs.proofs.ReadWords.{window_taken}
+use Rattle.region_runs.{specs.Windows.GoesOnFrom, proofs.ReadWords.window_taken}
 use Rattle.region_runs.proofs.WindowSteps.{step_first, step_within}
 use Rattle.region_runs.proofs.word_reader.read_in_windows.Goals as goal
 
@@ -18,13 +17,11 @@ loop-number-init g c =
 
 pub new-window-requires-clause-within : goal.new-window-requires-clause-within
 new-window-requires-clause-within g c =
-    step_within c.blocks-blocks.result c.args.step c.loop-number.number
-    c.requires.step.0
+    step_within c.blocks-blocks.result c.args.step c.loop-number.number c.requires.step.0
     (subst (λ n. c.loop-number.number < n) c.div_ceil-number-end.ensures c.loop-number-test.true)
 
 pub take_window-requires-clause-width : goal.take_window-requires-clause-width
-take_window-requires-clause-width g c =
-    c.requires.width
+take_window-requires-clause-width g c = c.requires.width
     ∙ ap (λ (j : Parts). length (sources j.circuit)) (sym c.loop-number.invariant.job.1)
 
 pub read-requires : goal.read-requires

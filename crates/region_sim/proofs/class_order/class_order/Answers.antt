@@ -5,8 +5,7 @@ use Rattle.region_sim.proofs.class_order.class_order.Goals as goal
 
 pub sorted_places-requires-clause-few : goal.sorted_places-requires-clause-few
 sorted_places-requires-clause-few c =
-    subst (λ (l : List ℕ). length l < 2 ^ 32) (sym c.deref.ensures.value)
-    c.in_ok-visits.ensures.few
+    subst (λ (l : List ℕ). length l < 2 ^ 32) (sym c.deref.ensures.value) c.in_ok-visits.ensures.few
 
 pub returns-clause-classes : goal.returns-clause-classes
 returns-clause-classes c =
@@ -18,5 +17,4 @@ returns-clause-classes c =
 pub returns-clause-count : goal.returns-clause-count
 returns-clause-count c =
     c.in_ok-sorted.ensures.positions.count ∙ c.in_ok-sorted.ensures.places.count
-    ∙ ap (λ (l : List ℕ). length l) c.deref.ensures.value
-    ∙ c.in_ok-visits.ensures.visits.are.count
+    ∙ ap (λ (l : List ℕ). length l) c.deref.ensures.value ∙ c.in_ok-visits.ensures.visits.are.count

@@ -21,8 +21,7 @@ loop-class-preserved c =
           (sym c.in_ok-push.ensures.items)
           (All-push (λ visit. visit < length (names job.circuit)) before (get_or places stem 0)
           was.within (places_low job.circuit there.0 places well there.1 there.2 stem lt));
-      are = subst (AreVisitsTo job places (c.loop-class.class + 1))
-          (sym c.in_ok-push.ensures.items)
+      are = subst (AreVisitsTo job places (c.loop-class.class + 1)) (sym c.in_ok-push.ensures.items)
           (visits_more job places c.loop-class.class stem (get_or places stem 0) before was.are
           c.stem_of_class.ensures.stem lt refl);
     }

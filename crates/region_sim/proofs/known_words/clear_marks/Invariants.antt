@@ -1,5 +1,4 @@
-use Rattle.std.proofs.Common.{◌≡◌, ◌<◌, ℕ}
-use Rattle.std.specs.Prelude.{slice_index_or}
+use Rattle.std.{proofs.Common.{◌≡◌, ◌<◌, ℕ}, specs.Prelude.slice_index_or}
 use Rattle.region_sim.proofs.known_words.clear_marks.Given as goal
 
 abbrev pub invariant-loop-mark : goal.invariant-loop-mark

@@ -1,18 +1,14 @@
-use Rattle.std.proofs.Common.{◌≡◌, ◌≢◌, ◌<◌, ◌≤◌, ◌+◌, ℕ, ◌∙◌, List}
-use Rattle.std.proofs.Common.{ap, arith, length, subst, sym}
-use Rattle.std.specs.Prelude.{Some, slice_get, slice_index_or}
-use Rattle.std.proofs.lemmas.Bool.{false≢true}
+use Rattle.std.proofs.Common.{◌≡◌, ◌≢◌, ◌<◌, ◌≤◌, ◌+◌, ℕ, ◌∙◌, List, ap, arith, length, subst, sym}
+use Rattle.std.{specs.Prelude.{Some, slice_get, slice_index_or}, proofs.lemmas.Bool.false≢true}
 use Rattle.std.proofs.lemmas.List.{length-set}
 use Rattle.bench_net.specs.Scan.{names}
 use Rattle.list_lemmas.proofs.Places.{within_place}
-use Rattle.wide_words.proofs.Public.{some_lane}
-use Rattle.wide_words.specs.Wide.{number}
-use Rattle.wide_words.specs.declared.wide.Wide.{Wide}
+use Rattle.wide_words.{proofs.Public.some_lane, specs.Wide.number, specs.declared.wide.Wide.Wide}
 use Rattle.region_sim.specs.declared.pack.Slot.{Slot}
-use Rattle.flat_circuit.proofs.Public.{index_of}
 use Rattle.region_sim.proofs.PackBegins.{HaveBegun, all_begun, begun_idle, begun_more}
-use Rattle.region_sim.proofs.pack.begin_stems.Goals as goal
 use Rattle.region_sim.proofs.pack.begin_stems.Goals.{then-not-is_none, else-not-is_none}
+use Rattle.flat_circuit.proofs.Public.{index_of}
+use Rattle.region_sim.proofs.pack.begin_stems.Goals as goal
 
 pub loop-slot-preserved : goal.loop-slot-preserved
 loop-slot-preserved g c =
@@ -32,8 +28,7 @@ loop-slot-preserved g c =
     let room = c.requires.room.0 in
     let same = last.deltas in
     let in_deltas : own.stem < length c.loop-slot.deltas = omega (arith, low, room, same) in
-    let After : List ℕ → List ℕ → Wide → ℕ → Type 0 =
-    λ deltas waiting kept from. record {
+    let After : List ℕ → List ℕ → Wide → ℕ → Type 0 = λ deltas waiting kept from. record {
       begun : HaveBegun layout circuit stems followed deltas waiting (number kept) from (slot + 1);
       within : from ≤ length (names circuit);
       deltas : length deltas ≡ length c.args.deltas.now;

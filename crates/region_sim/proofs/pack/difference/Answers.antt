@@ -2,12 +2,10 @@ use Rattle.std.proofs.Common.{◌≡◌, ◌∙◌, ℕ, List, ap, arith, map, s
 use Rattle.std.specs.Prelude.{slice_index_or, unwrap_or}
 use Rattle.bench_net.specs.declared.Kind.{Kind}
 use Rattle.fault_model.specs.Solution.{value}
-use Rattle.wide_words.specs.Lanes.{lane_in, slot_of}
-use Rattle.wide_words.specs.Wide.{number}
-use Rattle.flat_circuit.specs.GateForms.{inverted_if}
-use Rattle.region_sim.specs.Pack.{wide_bit}
-use Rattle.flat_circuit.specs.Words.{lane}
+use Rattle.wide_words.specs.{Lanes.{lane_in, slot_of}, Wide.number}
+use Rattle.flat_circuit.specs.{GateForms.inverted_if, Words.lane}
 use Rattle.flat_circuit.proofs.Public.{pins_within, pins_some, lane_xor, unlike}
+use Rattle.region_sim.specs.Pack.{wide_bit}
 use Rattle.region_sim.proofs.PackGates.{and_value, in_group, slot_low, xor_value}
 use Rattle.region_sim.proofs.pack.difference.Goals as goal
 
@@ -19,8 +17,7 @@ lanes_of_odd-requires-clause-some g c =
 pub lanes_of_odd-requires-clause-pins_in : goal.lanes_of_odd-requires-clause-pins_in
 lanes_of_odd-requires-clause-pins_in g c = λ k d lt.
     let within = pins_within c.args.circuit.now.arranged c.args.gate c.in-Some.driver.kind
-    c.in-Some.driver.pins.now c.requires.circuit.well_formed (sym c.in-Some.ensures.gate) k d
-    lt in
+    c.in-Some.driver.pins.now c.requires.circuit.well_formed (sym c.in-Some.ensures.gate) k d lt in
     omega (arith, within, c.requires.room)
 
 pub lanes_of_all-requires-clause-some : goal.lanes_of_all-requires-clause-some
@@ -31,15 +28,13 @@ lanes_of_all-requires-clause-some g c =
 pub lanes_of_all-requires-clause-pins_in : goal.lanes_of_all-requires-clause-pins_in
 lanes_of_all-requires-clause-pins_in g c = λ k d lt.
     let within = pins_within c.args.circuit.now.arranged c.args.gate c.in-Some.driver.kind
-    c.in-Some.driver.pins.now c.requires.circuit.well_formed (sym c.in-Some.ensures.gate) k d
-    lt in
+    c.in-Some.driver.pins.now c.requires.circuit.well_formed (sym c.in-Some.ensures.gate) k d lt in
     λ slot low. (let many = c.requires.view slot low in omega (arith, within, many))
 
 pub lanes_of_all-requires-clause-room : goal.lanes_of_all-requires-clause-room
 lanes_of_all-requires-clause-room g c = λ k d lt.
     let within = pins_within c.args.circuit.now.arranged c.args.gate c.in-Some.driver.kind
-    c.in-Some.driver.pins.now c.requires.circuit.well_formed (sym c.in-Some.ensures.gate) k d
-    lt in
+    c.in-Some.driver.pins.now c.requires.circuit.well_formed (sym c.in-Some.ensures.gate) k d lt in
     omega (arith, within, c.requires.room)
 
 pub of-requires : goal.of-requires
@@ -57,8 +52,7 @@ returns-then-driver g c = λ kind pins k lt is.
     let known = sym c.in-Some.ensures.gate in
     let same : (own.kind, own.pins.now) ≡ (kind, pins) =
     ap (λ o. unwrap_or o (kind, pins)) (sym known ∙ is) in
-    let P : Kind × List ℕ → Type 0 =
-    λ line. inverted_if (lane (number c.lanes_of_odd.result) k) bit
+    let P : Kind × List ℕ → Type 0 = λ line. inverted_if (lane (number c.lanes_of_odd.result) k) bit
     ≡ value line.0 (map (wide_bit layout good delta k) line.1) in
     subst P same
     (xor_value layout good delta own.kind own.form c.in-Some.ensures.form own.pins.now k
@@ -80,17 +74,12 @@ returns g c = λ kind pins k lt is.
     let turn = lane (number c.in_each_wide_lane.result) k in
     let same : (own.kind, own.pins.now) ≡ (kind, pins) =
     ap (λ o. unwrap_or o (kind, pins)) (sym known ∙ is) in
-    let P : Kind × List ℕ → Type 0 =
-    λ line. inverted_if (lane (number c.xor.result) k) bit
+    let P : Kind × List ℕ → Type 0 = λ line. inverted_if (lane (number c.xor.result) k) bit
     ≡ value line.0 (map (wide_bit layout good delta k) line.1) in
-    subst P same
-    (ap (λ n. inverted_if (lane n k) bit) c.xor.ensures
-    ∙ (ap (λ b. inverted_if b bit)
+    subst P same (ap (λ n. inverted_if (lane n k) bit) c.xor.ensures ∙ (ap (λ b. inverted_if b bit)
     (lane_xor (number c.lanes_of_all.result) (number c.xor-word.result) k
     ∙ ap (unlike all) (ap (λ n. lane n k) c.xor-word.ensures
     ∙ (lane_xor (number c.of.result) (number c.in_each_wide_lane.result) k
     ∙ ap (λ b. unlike b turn) (c.of.ensures k lt))))
     ∙ and_value layout good delta own.kind own.form c.in-Some.ensures.form own.pins.now k all bit
-    turn c.if-driver.false
-    (c.in_each_wide_lane.ensures k lt)
-    (c.lanes_of_all.ensures k lt)))
+    turn c.if-driver.false (c.in_each_wide_lane.ensures k lt) (c.lanes_of_all.ensures k lt)))

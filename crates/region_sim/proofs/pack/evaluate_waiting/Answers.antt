@@ -1,10 +1,7 @@
-use Rattle.std.proofs.Common.{◌≡◌, ◌∙◌, ap, arith, set, sym, inl, inr}
+use Rattle.std.{proofs.Common.{◌≡◌, ◌∙◌, ap, arith, set, sym, inl, inr}, specs.Int.Bits.or_zero_l}
 use Rattle.std.specs.Prelude.{bit_and, bit_or, slice_index_or}
-use Rattle.std.specs.Int.Bits.{or_zero_l}
-use Rattle.std.proofs.lemmas.Bool.{cases_eq, false≢true}
-use Rattle.std.proofs.lemmas.List.{get_or-set_same, set-get_or}
-use Rattle.wide_words.proofs.Public.{some_lane}
-use Rattle.wide_words.specs.Wide.{number}
+use Rattle.std.proofs.lemmas.{Bool.{cases_eq, false≢true}, List.{get_or-set_same, set-get_or}}
+use Rattle.wide_words.{proofs.Public.some_lane, specs.Wide.number}
 use Rattle.flat_circuit.specs.Words.{lane}
 use Rattle.region_sim.proofs.pack.evaluate_waiting.Goals as goal
 
@@ -38,8 +35,7 @@ returns-clause-evaluated g c =
     let word = bit_and (number c.difference.result) (number c.args.kept) in (
       number c.difference.result,
       c.difference.ensures,
-      c.change.ensures.changed
-          ∙ (ap (set delta gate) (c.and-word.ensures ∙ sym (or_zero_l word))
+      c.change.ensures.changed ∙ (ap (set delta gate) (c.and-word.ensures ∙ sym (or_zero_l word))
           ∙ ap (λ a. set delta gate (bit_or a word)) (sym same)),
     )
 

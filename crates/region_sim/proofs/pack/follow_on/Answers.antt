@@ -1,13 +1,11 @@
 use Rattle.std.proofs.Common.{◌≡◌, ◌∙◌, ◌||◌, Bool, true, false, ap, refl, sym}
 use Rattle.wide_words.specs.Wide.{number}
-use Rattle.flat_circuit.specs.Words.{lane}
-use Rattle.flat_circuit.proofs.Public.{lane_or, lane_zero}
+use Rattle.flat_circuit.{specs.Words.lane, proofs.Public.{lane_or, lane_zero}}
 use Rattle.region_sim.proofs.PackKept.{kept_hit, kept_narrow}
 use Rattle.region_sim.proofs.pack.follow_on.Goals as goal
 
 pub returns-then-is_none-clause-seen : goal.returns-then-is_none-clause-seen
-returns-then-is_none-clause-seen g c = λ k lt.
-    with_none (lane (number c.args.found.seen) k)
+returns-then-is_none-clause-seen g c = λ k lt. with_none (lane (number c.args.found.seen) k)
     ∙ ap (λ b. lane (number c.args.found.seen) k || b) (sym (lane_zero k)
     ∙ ap (λ w. lane w k) (sym (c.is_none.ensures.0 c.if-is_none.true)))
   where

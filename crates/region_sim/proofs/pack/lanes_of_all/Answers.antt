@@ -1,9 +1,8 @@
 use Rattle.std.proofs.Common.{◌≡◌, ◌<◌, ◌-◌, ◌+◌, ◌∙◌, ap, arith, length}
 use Rattle.wide_words.specs.Wide.{number}
-use Rattle.flat_circuit.specs.GateForms.{inverted_if}
-use Rattle.region_sim.specs.Pack.{wide_bit}
-use Rattle.flat_circuit.specs.Words.{lane}
+use Rattle.flat_circuit.specs.{GateForms.inverted_if, Words.lane}
 use Rattle.flat_circuit.proofs.Public.{at_last, lane_and, all_first, all_last, all_more}
+use Rattle.region_sim.specs.Pack.{wide_bit}
 use Rattle.region_sim.proofs.pack.lanes_of_all.Goals as goal
 
 pub loop-place-init : goal.loop-place-init
@@ -25,8 +24,7 @@ loop-place-preserved g c =
       all = λ k lt. ap (λ n. lane n k) c.and-all.ensures
           ∙ (lane_and (number c.loop-place.all) (number c.pin_lanes-word.result) k
           ∙ all_more (wide_bit g.C.Copies.layout (g.C.Copies.rows c.args.copies) c.args.deltas.now
-          k)
-          c.args.gate.pins.now (λ b. inverted_if c.args.gate.form.inverts_inputs b)
+          k) c.args.gate.pins.now (λ b. inverted_if c.args.gate.form.inverts_inputs b)
           c.loop-place.place (lane (number c.loop-place.all) k)
           (lane (number c.pin_lanes-word.result) k) more (c.loop-place.invariant.all k lt)
           (c.pin_lanes-word.ensures k lt));

@@ -1,9 +1,7 @@
-use Rattle.std.proofs.Common.{◌≡◌, ◌<◌, ◌≤◌, ℕ, length, map, take}
-use Rattle.std.specs.List.{list_all}
+use Rattle.std.{proofs.Common.{◌≡◌, ◌<◌, ◌≤◌, ℕ, length, map, take}, specs.List.list_all}
 use Rattle.wide_words.specs.Wide.{number}
-use Rattle.flat_circuit.specs.GateForms.{inverted_if}
+use Rattle.flat_circuit.specs.{GateForms.inverted_if, Words.lane}
 use Rattle.region_sim.specs.Pack.{wide_bit}
-use Rattle.flat_circuit.specs.Words.{lane}
 use Rattle.region_sim.proofs.pack.lanes_of_all.Given as goal
 
 abbrev pub invariant-loop-place : goal.invariant-loop-place

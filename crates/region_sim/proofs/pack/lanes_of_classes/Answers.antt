@@ -1,7 +1,5 @@
-use Rattle.std.proofs.Common.{◌≡◌, arith}
-use Rattle.std.specs.Prelude.{Some, slice_get, slice_index_or}
-use Rattle.list_lemmas.proofs.Members.{among}
-use Rattle.list_lemmas.proofs.Places.{place_within, placed, within_place}
+use Rattle.std.{proofs.Common.{◌≡◌, arith}, specs.Prelude.{Some, slice_get, slice_index_or}}
+use Rattle.list_lemmas.proofs.{Members.among, Places.{place_within, placed, within_place}}
 use Rattle.block_sim.specs.declared.propagation.Followed.{Followed}
 use Rattle.flat_circuit.proofs.Public.{index_of}
 use Rattle.region_sim.proofs.PackSlots.{one_joined, one_of_joined}

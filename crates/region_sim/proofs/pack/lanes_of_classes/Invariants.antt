@@ -1,5 +1,4 @@
-use Rattle.std.proofs.Common.{◌≡◌, ◌<◌, ℕ, true}
-use Rattle.std.specs.Prelude.{Some, slice_get}
+use Rattle.std.{proofs.Common.{◌≡◌, ◌<◌, ℕ, true}, specs.Prelude.{Some, slice_get}}
 use Rattle.block_sim.specs.declared.propagation.Followed.{Followed}
 use Rattle.region_sim.specs.Pack.{HaveLane}
 use Rattle.flat_circuit.specs.Words.{lane}

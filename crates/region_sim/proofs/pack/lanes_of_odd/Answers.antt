@@ -35,8 +35,7 @@ returns-then-last-eq0 c = λ k lt.
     let count : length pins ≡ length pins - 1 + 1 = omega (arith, c.requires.some) in
     c.loop-place.invariant.odd k lt
     ∙ odd_only (λ s. lane (slice_index_or c.args.deltas.now s 0) k) pins c.loop-place.place
-    (length pins - 1) count c.if-last-eq0.true
-    (omega (
+    (length pins - 1) count c.if-last-eq0.true (omega (
       arith,
       c.loop-place.auto.place,
       c.loop-place.invariant.within,

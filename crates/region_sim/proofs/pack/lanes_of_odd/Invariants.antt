@@ -1,5 +1,4 @@
-use Rattle.std.proofs.Common.{◌≡◌, ◌<◌, ◌≤◌, ℕ, length, map, take}
-use Rattle.std.specs.Prelude.{slice_index_or}
+use Rattle.std.{proofs.Common.{◌≡◌, ◌<◌, ◌≤◌, ℕ, length, map, take}, specs.Prelude.slice_index_or}
 use Rattle.fault_model.specs.Solution.{is_odd}
 use Rattle.wide_words.specs.Wide.{number}
 use Rattle.flat_circuit.specs.Words.{lane}

@@ -1,9 +1,6 @@
-use Rattle.std.proofs.Common.{◌∙◌, ap}
-use Rattle.std.specs.Prelude.{slice_index_or}
-use Rattle.wide_words.specs.Lanes.{lane_in, slot_of}
-use Rattle.wide_words.specs.Wide.{number}
-use Rattle.flat_circuit.specs.Words.{lane}
-use Rattle.flat_circuit.proofs.Public.{lane_xor, unlike}
+use Rattle.std.{proofs.Common.{◌∙◌, ap}, specs.Prelude.slice_index_or}
+use Rattle.wide_words.specs.{Lanes.{lane_in, slot_of}, Wide.number}
+use Rattle.flat_circuit.{specs.Words.lane, proofs.Public.{lane_xor, unlike}}
 use Rattle.region_sim.proofs.PackGates.{turned_bit}
 use Rattle.region_sim.proofs.pack.pin_lanes.Goals as goal
 

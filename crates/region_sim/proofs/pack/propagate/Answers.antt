@@ -1,24 +1,16 @@
-use Rattle.std.proofs.Common.{◌≡◌, ◌≢◌, ◌<◌, ◌≤◌, ◌⊎◌, ℕ, ◌∙◌}
-use Rattle.std.proofs.Common.{refl, true, false}
-use Rattle.std.proofs.Common.{ap, arith, inl, inr, length, subst, sym}
-use Rattle.std.specs.Prelude.{All, map, slice_index_or}
-use Rattle.std.proofs.lemmas.Bool.{false≢true}
-use Rattle.std.proofs.lemmas.List.{length-set}
+use Rattle.std.proofs.Common.{◌≡◌, ◌≢◌, ◌<◌, ◌≤◌, ◌⊎◌, ℕ, ◌∙◌, refl, true, false, ap, arith, inl}
+use Rattle.std.{proofs.Common.{inr, length, subst, sym}, specs.Prelude.{All, map, slice_index_or}}
+use Rattle.std.proofs.lemmas.{Bool.false≢true, List.length-set}
 use Rattle.bench_net.specs.Scan.{names, signal}
 use Rattle.wide_words.specs.Wide.{number}
-use Rattle.flat_circuit.specs.Readers.{IsObserved, Reads}
-use Rattle.region_sim.specs.Pack.{AreHitIn, AreSlots, TellsPack}
-use Rattle.flat_circuit.specs.Words.{lane}
+use Rattle.flat_circuit.specs.{Readers.{IsObserved, Reads}, Words.lane}
 use Rattle.flat_circuit.proofs.Public.{lane_zero, reader_within}
+use Rattle.region_sim.{specs.Pack.{AreHitIn, AreSlots, TellsPack}, proofs.OneLane.bit_cases}
+use Rattle.region_sim.proofs.PackRuns.{gate_rows, goes_on, more_hits, or_on, stays_inside, told}
+use Rattle.region_sim.proofs.{PackStarts.{started, stem_low}, PackSteps.stepped}
+use Rattle.region_sim.proofs.{PackWords.{differs_in, each}, pack.propagate.Goals.In-Some}
 use Rattle.block_sim.proofs.Public.{gate_named_of_signal_equations as gate_named}
-use Rattle.region_sim.proofs.OneLane.{bit_cases}
-use Rattle.region_sim.proofs.PackRuns.{gate_rows, goes_on, more_hits, or_on}
-use Rattle.region_sim.proofs.PackRuns.{stays_inside, told}
-use Rattle.region_sim.proofs.PackStarts.{started, stem_low}
-use Rattle.region_sim.proofs.PackSteps.{stepped}
-use Rattle.region_sim.proofs.PackWords.{differs_in, each}
 use Rattle.region_sim.proofs.pack.propagate.Goals as goal
-use Rattle.region_sim.proofs.pack.propagate.Goals.{In-Some}
 
 pub loop-gate-init : goal.loop-gate-init
 loop-gate-init g c =
@@ -38,8 +30,7 @@ loop-gate-init g c =
       state = λ tests group well rising free.
           started g.C.Copies.layout g.C.Copies.sized c.args.circuit.now.arranged well rising
           tests group (g.C.Copies.rows c.args.copies) free c.as_slice-stems.result.now
-          c.args.followed.now
-          c.begin_stems-begun.new.deltas c.begin_stems-begun.new.waiting
+          c.args.followed.now c.begin_stems-begun.new.deltas c.begin_stems-begun.new.waiting
           (number c.begin_stems-begun.result.kept) (number c.none.result)
           c.begin_stems-begun.result.from
           h (each (λ slot. ¬ IsObserved circuit slot.stem) c.as_slice-stems.result.now slots.hidden)
@@ -144,8 +135,7 @@ loop-gate-preserved g c =
     let same = last.deltas in
     let ev = stepped g.C.Copies.layout circuit c.requires.circuit.well_formed
     (g.C.Copies.rows c.args.copies) (number c.loop-gate.found.kept) gate c.loop-gate.deltas
-    c.next_gate.new.waiting
-    c.evaluate_waiting-fresh.new.deltas c.evaluate_waiting-fresh.new.waiting
+    c.next_gate.new.waiting c.evaluate_waiting-fresh.new.deltas c.evaluate_waiting-fresh.new.waiting
     (number c.evaluate_waiting-fresh.result) (omega (arith, lt, room, begun, same)) fresh.evaluated
     fresh.some fresh.scheduled fresh.same fresh.shown in
     let waits : slice_index_or c.loop-gate.waiting gate 0 ≢ 0 =
@@ -156,15 +146,13 @@ loop-gate-preserved g c =
       waiting = (let a = c.evaluate_waiting-fresh.ensures.gates in a ∙ (taken ∙ last.waiting));
       within = omega (arith, lt);
       inside = stays_inside g.C.Copies.layout circuit (g.C.Copies.rows c.args.copies) (number
-          c.loop-gate.found.kept)
-          gate by.0 by.3 c.loop-gate.deltas c.next_gate.new.waiting
+          c.loop-gate.found.kept) gate by.0 by.3 c.loop-gate.deltas c.next_gate.new.waiting
           c.evaluate_waiting-fresh.new.deltas c.evaluate_waiting-fresh.new.waiting
           (number c.evaluate_waiting-fresh.result) ev
           (lane (number c.begin_stems-begun.result.kept)) last.inside last.narrow;
       narrow = λ k low e. last.narrow k low (on.narrow k low e);
       settled = λ k low begun off. (let go : (lane (number c.loop-gate.found.kept) k ≡ true)
-          ⊎ (lane (number c.loop-gate.found.kept) k ≡ false)
-          → (g.G.Goal.ALL_LANES ≡ false)
+          ⊎ (lane (number c.loop-gate.found.kept) k ≡ false) → (g.G.Goal.ALL_LANES ≡ false)
           × AreHitIn g.C.Copies.layout c.as_slice-stems.result.now c.args.followed.now
           (number c.follow_on-found.result.seen) k = elim [
             | inl is ↦ on.rest k low is off
@@ -209,13 +197,11 @@ pub returns-clause-detected : goal.returns-clause-detected
 returns-clause-detected g c = λ tests group free.
     let last = c.loop-gate.invariant in
     subst (λ slots. TellsPack g.G.Goal.ALL_LANES g.C.Copies.layout c.args.circuit.now.arranged tests
-    group slots
-    c.args.followed.now (number c.loop-gate.found.seen)) c.as_slice-stems.ensures.value
+    group slots c.args.followed.now (number c.loop-gate.found.seen)) c.as_slice-stems.ensures.value
     (told g.C.Copies.layout g.C.Copies.sized c.args.circuit.now.arranged
     c.requires.circuit.well_formed c.signals-signals.ensures.rising tests group
     (g.C.Copies.rows c.args.copies) free c.as_slice-stems.result.now c.args.followed.now
-    c.loop-gate.deltas
-    c.loop-gate.waiting c.loop-gate.from (number c.begin_stems-begun.result.kept)
+    c.loop-gate.deltas c.loop-gate.waiting c.loop-gate.from (number c.begin_stems-begun.result.kept)
     (number c.loop-gate.found.kept) (number c.loop-gate.found.seen)
     (last.state tests group c.requires.circuit.well_formed c.signals-signals.ensures.rising
     free) (stem_low g.C.Copies.layout c.args.circuit.now.arranged c.as_slice-stems.result.now

@@ -1,14 +1,10 @@
 use Rattle.std.proofs.Common.{◌≡◌, ◌<◌, ◌≤◌, ◌-◌, ℕ, List, length, true, false}
-use Rattle.bench_net.specs.Circuit.{IsWellFormed}
-use Rattle.bench_net.specs.Scan.{names}
+use Rattle.bench_net.specs.{Circuit.IsWellFormed, Scan.names}
 use Rattle.fault_model.specs.Solution.{Test}
 use Rattle.wide_words.specs.Wide.{number}
-use Rattle.flat_circuit.specs.Readers.{IsRising}
-use Rattle.region_sim.specs.Pack.{AreHitIn, AreRows}
-use Rattle.flat_circuit.specs.Words.{lane}
-use Rattle.region_sim.proofs.PackLanes.{ArePropagating}
-use Rattle.region_sim.proofs.PackStarts.{pack_moment, stem_lanes}
-use Rattle.region_sim.proofs.PackWords.{differs_in}
+use Rattle.flat_circuit.specs.{Readers.IsRising, Words.lane}
+use Rattle.region_sim.{specs.Pack.{AreHitIn, AreRows}, proofs.PackLanes.ArePropagating}
+use Rattle.region_sim.proofs.{PackStarts.{pack_moment, stem_lanes}, PackWords.differs_in}
 use Rattle.region_sim.proofs.pack.propagate.Given as goal
 
 abbrev pub invariant-loop-gate : goal.invariant-loop-gate
@@ -21,8 +17,7 @@ invariant-loop-gate g l = record {
   narrow : (k : ℕ) → k < 512 → lane (number l.found.kept) k ≡ true
       → lane (number l.initial.found.kept) k ≡ true;
   settled : (k : ℕ) → k < 512 → lane (number l.initial.found.kept) k ≡ true
-      → lane (number l.found.kept) k ≡ false
-      → (g.G.Goal.ALL_LANES ≡ false)
+      → lane (number l.found.kept) k ≡ false → (g.G.Goal.ALL_LANES ≡ false)
       × AreHitIn g.C.Copies.layout l.stems l.followed (number l.found.seen) k;
   state : (tests : List Test) (group : ℕ → ℕ) (well : IsWellFormed l.circuit.arranged)
       (rising : IsRising l.circuit.arranged)

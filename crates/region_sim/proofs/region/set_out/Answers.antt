@@ -3,12 +3,10 @@ use Rattle.std.specs.Prelude.{Some, None, slice_index_or, bit_and, bit_xor}
 use Rattle.bench_net.specs.Scan.{names, signal, name_of, definition, gate_of, gate_line}
 use Rattle.bench_net.proofs.Public.{name_of-signal}
 use Rattle.list_lemmas.proofs.Places.{place_within}
-use Rattle.fault_model.specs.Detection.{argument, name_on}
-use Rattle.fault_model.proofs.Public.{carries}
+use Rattle.fault_model.{specs.Detection.{argument, name_on}, proofs.Public.carries}
 use Rattle.flat_circuit.specs.Stuck.{stuck_fault}
 use Rattle.flat_circuit.proofs.Public.{pin_of, gate_within, lane_zero, lane_of_zero}
-use Rattle.block_sim.proofs.Public.{shown_none, turned_is}
-use Rattle.block_sim.specs.Flips.{start_of}
+use Rattle.block_sim.{proofs.Public.{shown_none, turned_is}, specs.Flips.start_of}
 use Rattle.region_sim.proofs.FaultLanes.{none_told, observer_told, pin_come, stem_come}
 use Rattle.region_sim.proofs.region.set_out.Goals as goal
 
@@ -121,8 +119,7 @@ returns-in-Data-clause-reached c = λ tests group words k lt.
     let n = carries c.args.origin.fault.model circuit fault well c.requires.listed in
     let number : c.args.origin.carried ≡ signal circuit n.0 = c.requires.carried n.0 n.1 in
     let detection = λ (none : start_of fault.line ≡ None). observer_told circuit well tests group
-    fault
-    good words lanes c.args.origin.fault.model
+    fault good words lanes c.args.origin.fault.model
     (bit_and (bit_xor c.word.result (slice_index_or good c.args.origin.carried 0)) lanes) n.0
     c.requires.listed none n.1
     (turned_is circuit fault good lanes c.args.origin.carried c.word.result n.0 number

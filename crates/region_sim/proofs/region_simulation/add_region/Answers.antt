@@ -1,12 +1,9 @@
-use Rattle.std.proofs.Common.{◌≡◌, ◌⊎◌, ◌<◌, ◌∙◌, ap, arith, length}
-use Rattle.std.proofs.Common.{subst, sym}
+use Rattle.std.proofs.Common.{◌≡◌, ◌⊎◌, ◌<◌, ◌∙◌, ap, arith, length, subst, sym}
 use Rattle.std.specs.Prelude.{Option, slice_index_or, unwrap_or}
 use Rattle.std.proofs.lemmas.Option.{slice_get-get_or}
 use Rattle.bench_net.specs.Scan.{names}
-use Rattle.fault_model.specs.Fault.{Fault}
-use Rattle.fault_model.specs.Reordered.{place}
-use Rattle.flat_circuit.specs.Readers.{IsObserved}
-use Rattle.flat_circuit.specs.Regions.{IsStem, IsStemOfLine}
+use Rattle.fault_model.specs.{Fault.Fault, Reordered.place}
+use Rattle.flat_circuit.specs.{Readers.IsObserved, Regions.{IsStem, IsStemOfLine}}
 use Rattle.flat_circuit.proofs.Public.{count_there, reordered, circuit_there}
 use Rattle.block_sim.proofs.Public.{same_stems}
 use Rattle.region_sim.proofs.PackedRegions.{gathered_more, gathered_over}
@@ -42,8 +39,7 @@ returns-then-not-is_open-clause-gathered g c = λ first before le agree was.
     (settled_from wants kept from q (slice_index_or kept from c.index-kept-from.result)
     (slice_get-get_or kept from c.index-kept-from.result
     (omega (arith, c.requires.within, c.requires.places)))
-    (sym c.is_open.ensures ∙ c.if-not-is_open.true) (c.requires.next.between from q next)))
-    was
+    (sym c.is_open.ensures ∙ c.if-not-is_open.true) (c.requires.next.between from q next))) was
 
 pub place_of-stem-requires : goal.place_of-stem-requires
 place_of-stem-requires g c =
@@ -126,8 +122,7 @@ returns-clause-gathered g c = λ first before le agree was.
     gathered_more wants (g.G.Goal.means c.args.goal.now) job there c.args.span c.args.rows.now
     before first c.args.from c.follow_region-at.result (omega (arith, up)) c.args.stems.now.items
     c.add_slot.new.stems.items c.args.followed.now.items c.follow_region-at.new.followed.items
-    c.args.kept.now c.follow_region-at.new.kept row
-    (record {
+    c.args.kept.now c.follow_region-at.new.kept row (record {
       stem = stem;
       begin = length c.as_slice-begin.result.now;
       end = length c.as_slice-end.result.now;

@@ -2,11 +2,10 @@ use Rattle.std.proofs.Common.{◌≡◌, ◌+◌, arith}
 use Rattle.std.specs.Prelude.{Some, slice_get, slice_index_or, slice_range}
 use Rattle.list_lemmas.proofs.Places.{within_place}
 use Rattle.wide_words.specs.Wide.{number}
-use Rattle.region_sim.specs.declared.pack.Slot.{Slot}
-use Rattle.flat_circuit.proofs.Public.{index_of}
+use Rattle.region_sim.{specs.declared.pack.Slot.Slot, proofs.ListParts.out_of_range}
 use Rattle.region_sim.proofs.RegionHits.{member_at, place_of_member}
-use Rattle.region_sim.proofs.ListParts.{out_of_range}
 use Rattle.region_sim.proofs.SlotHits.{no_slots, order_within, slot_more}
+use Rattle.flat_circuit.proofs.Public.{index_of}
 use Rattle.region_sim.proofs.region_simulation.conclude_slots.Goals as goal
 
 abbrev none : Slot

@@ -1,16 +1,12 @@
 use Rattle.std.proofs.Common.{◌≤◌, ◌∙◌, ap, length, subst, sym}
 use Rattle.std.specs.Prelude.{All, None, vec_capacity}
-use Rattle.wide_words.specs.Lanes.{slots}
-use Rattle.wide_words.specs.Wide.{number}
-use Rattle.flat_circuit.specs.BlockSpans.{group_of}
-use Rattle.region_sim.specs.Pack.{AreRows, IsWithin}
-use Rattle.region_sim.specs.RegionHits.{AreApart, AreSlotsConcluded}
-use Rattle.flat_circuit.specs.Words.{AreWords}
+use Rattle.wide_words.specs.{Lanes.slots, Wide.number}
+use Rattle.flat_circuit.specs.{BlockSpans.group_of, Words.AreWords}
 use Rattle.flat_circuit.proofs.Public.{reordered, circuit_there}
-use Rattle.region_sim.proofs.PackedRegions.{taken_all}
-use Rattle.region_sim.proofs.RegionHits.{member_at}
-use Rattle.region_sim.proofs.region_simulation.flip_pack.Goals as goal
+use Rattle.region_sim.specs.{Pack.{AreRows, IsWithin}, RegionHits.{AreApart, AreSlotsConcluded}}
+use Rattle.region_sim.proofs.{PackedRegions.taken_all, RegionHits.member_at}
 use Rattle.region_sim.proofs.region_simulation.flip_pack.Goals.{Start}
+use Rattle.region_sim.proofs.region_simulation.flip_pack.Goals as goal
 
 pub propagate-seen-requires-clause-circuit : goal.propagate-seen-requires-clause-circuit
 propagate-seen-requires-clause-circuit g c =
@@ -38,20 +34,17 @@ propagate-seen-requires-clause-free g c = (
 )
 
 pub conclude_slots-requires-clause-slots : goal.conclude_slots-requires-clause-slots
-conclude_slots-requires-clause-slots g c =
-    subst (λ l. length l ≤ slots g.C.Copies.layout)
+conclude_slots-requires-clause-slots g c = subst (λ l. length l ≤ slots g.C.Copies.layout)
     (sym (c.as_slice-stems.ensures.value ∙ ap (λ v. v.items) c.propagate-seen.ensures.slots))
     c.requires.slots.few
 
 pub conclude_slots-requires-clause-within : goal.conclude_slots-requires-clause-within
-conclude_slots-requires-clause-within g c =
-    subst (All (IsWithin c.args.followed.now))
+conclude_slots-requires-clause-within g c = subst (All (IsWithin c.args.followed.now))
     (sym (c.as_slice-stems.ensures.value ∙ ap (λ v. v.items) c.propagate-seen.ensures.slots))
     c.requires.slots.within
 
 pub conclude_slots-requires-clause-apart : goal.conclude_slots-requires-clause-apart
-conclude_slots-requires-clause-apart g c =
-    subst AreApart
+conclude_slots-requires-clause-apart g c = subst AreApart
     (sym (c.as_slice-stems.ensures.value ∙ ap (λ v. v.items) c.propagate-seen.ensures.slots))
     c.requires.apart
 
@@ -76,8 +69,7 @@ returns-clause-taken g c = λ rows from to before gathered.
     (subst (λ l. AreSlotsConcluded g.G.Goal.ALL_LANES (g.G.Goal.means goal_is) layout c.args.span
     wide followed l (length l) c.args.kept.now last)
     (c.as_slice-stems.ensures.value ∙ ap (λ v. v.items) c.propagate-seen.ensures.slots)
-    c.conclude_slots.ensures.concluded)
-    gathered
+    c.conclude_slots.ensures.concluded) gathered
 
 pub returns-clause-others : goal.returns-clause-others
 returns-clause-others g c = λ place none. c.conclude_slots.ensures.concluded.others place

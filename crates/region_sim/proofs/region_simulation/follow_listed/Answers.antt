@@ -1,24 +1,16 @@
-use Rattle.std.proofs.Common.{◌≡◌, true, refl, sym, ◌∙◌, ap, subst, arith}
+use Rattle.std.proofs.{Common.{◌≡◌, true, refl, sym, ◌∙◌, ap, subst, arith}, lemmas.Bool.false≢true}
 use Rattle.std.specs.Prelude.{Contains, Option, bit_and, unwrap_or}
-use Rattle.std.proofs.lemmas.Bool.{false≢true}
-use Rattle.fault_model.specs.Fault.{Fault, faults}
-use Rattle.fault_model.specs.Reordered.{moved_fault, place}
-use Rattle.flat_circuit.specs.BlockSpans.{group_of}
-use Rattle.region_sim.specs.declared.region.Reach.TheVariants.{Observed, Stem}
-use Rattle.flat_circuit.specs.Regions.{IsStemOfLine}
-use Rattle.block_sim.specs.Flips.{AreLanesFor, HasCome}
-use Rattle.region_sim.specs.Reached.{IsReached}
-use Rattle.flat_circuit.specs.Stuck.{stuck_fault}
-use Rattle.flat_circuit.specs.Readers.{IsObserved}
-use Rattle.flat_circuit.specs.Words.{lane, test_of}
+use Rattle.fault_model.specs.{Fault.{Fault, faults}, Reordered.{moved_fault, place}}
+use Rattle.flat_circuit.specs.{BlockSpans.group_of, Regions.IsStemOfLine, Stuck.stuck_fault}
+use Rattle.flat_circuit.specs.{Readers.IsObserved, Words.{lane, test_of}, Origins.IsStuckOf}
 use Rattle.flat_circuit.proofs.Public.{lane_zero, reordered, within_there, circuit_there}
 use Rattle.flat_circuit.proofs.Public.{listed_there, starts_there, same_readers, lane_of_zero}
 use Rattle.flat_circuit.proofs.Public.{lanes_decide}
-use Rattle.block_sim.proofs.Public.{room_there, observed_flip, lanes_both}
-use Rattle.block_sim.proofs.Public.{lanes_first, lanes_second, same_flips, same_stems}
-use Rattle.region_sim.proofs.ArrangedReaches.{reached_there}
-use Rattle.region_sim.proofs.SpanHits.{lanes_exact}
-use Rattle.flat_circuit.specs.Origins.{IsStuckOf}
+use Rattle.region_sim.specs.{declared.region.Reach.TheVariants.{Observed, Stem}, Reached.IsReached}
+use Rattle.region_sim.proofs.{ArrangedReaches.reached_there, SpanHits.lanes_exact}
+use Rattle.block_sim.specs.Flips.{AreLanesFor, HasCome}
+use Rattle.block_sim.proofs.Public.{room_there, observed_flip, lanes_both, lanes_first}
+use Rattle.block_sim.proofs.Public.{lanes_second, same_flips, same_stems}
 use Rattle.region_sim.proofs.region_simulation.follow_listed.Goals as goal
 
 pub follow_within-requires-clause-view : goal.follow_within-requires-clause-view
@@ -27,10 +19,7 @@ follow_within-requires-clause-view c =
     let there = c.args.view.circuit.now.arranged in
     let whole = c.requires.view.together.circuit in
     let arranged = c.requires.view.arranged in
-    record {
-      circuit = circuit_there circuit there whole arranged;
-      count = c.requires.view.count;
-    }
+    record { circuit = circuit_there circuit there whole arranged; count = c.requires.view.count }
 
 pub follow_within-requires-clause-listed : goal.follow_within-requires-clause-listed
 follow_within-requires-clause-listed c =
@@ -47,8 +36,7 @@ follow_within-requires-clause-listed c =
     let is : stuck_fault c.origin_of-origin.result.fault ≡ moved_fault circuit there fault =
     start.moved in
     subst (λ f. Contains (faults f.model there) f) (sym is)
-    (listed_there circuit there well arranged fault.model fault
-    starts.listed)
+    (listed_there circuit there well arranged fault.model fault starts.listed)
 
 pub follow_within-requires-clause-words : goal.follow_within-requires-clause-words
 follow_within-requires-clause-words c = (
@@ -126,8 +114,7 @@ returns-then-lanes-eq0-clause-approach c =
     let come : HasCome circuit tests group fault lanes c.args.row.stem at.lanes =
     ((same_flips circuit there well (reordered circuit there well arranged)).come tests group
     fault lanes c.args.row.stem at.lanes).1
-    (subst (λ s. HasCome there tests group (moved_fault circuit there fault) lanes s at.lanes)
-    stem
+    (subst (λ s. HasCome there tests group (moved_fault circuit there fault) lanes s at.lanes) stem
     (subst (λ f. IsReached there tests group f lanes (Stem at)) is
     (c.in-Stem.ensures.reached tests group words))) in (
       fault,
@@ -174,15 +161,7 @@ returns-else-is_observed-clause-approach c =
     (subst (λ f. IsReached there tests group f lanes (Stem at)) is
     (c.in-Stem.ensures.reached tests group words))) in (
       c.requires.row.named,
-      (
-        fault,
-        lanes,
-        at.lanes,
-        o.1,
-        decides,
-        come,
-        refl,
-      ),
+      (fault, lanes, at.lanes, o.1, decides, come, refl),
     )
 
 pub returns-then-is_observed-clause-approach : goal.returns-then-is_observed-clause-approach
@@ -269,8 +248,7 @@ follow_within-requires-clause-stem c =
     let starts = o.2 in
     let start = starts_there circuit there c.args.view.circuit.now.statements
     c.args.row.representative c.origin_of-origin.result c.requires.view.part
-    c.origin_of-origin.ensures fault
-    starts in
+    c.origin_of-origin.ensures fault starts in
     let is : stuck_fault c.origin_of-origin.result.fault ≡ moved_fault circuit there fault =
     start.moved in
     let h = c.requires.row.stem in

@@ -1,20 +1,16 @@
 use Rattle.std.proofs.Common.{◌≡◌, ◌≢◌, ◌⊎◌, ◌+◌, ◌≤◌, ◌∙◌, ℕ, List, ap, arith, inl, inr, length}
-use Rattle.std.proofs.Common.{refl, sym, subst}
-use Rattle.std.specs.Prelude.{Some, slice_get, slice_index_or}
+use Rattle.std.{proofs.Common.{refl, sym, subst}, specs.Prelude.{Some, slice_get, slice_index_or}}
 use Rattle.std.proofs.lemmas.Option.{slice_get-get_or, slice_get_within}
-use Rattle.flat_circuit.specs.declared.origin.ListedClass.{ListedClass}
-use Rattle.region_sim.specs.OpenPlaces.{AgreeFrom, AreSettled}
-use Rattle.bench_net.specs.Statement.{Statement}
-use Rattle.flat_circuit.specs.Readers.{IsObserved}
-use Rattle.block_sim.specs.declared.propagation.Followed.{Followed}
-use Rattle.region_sim.specs.RegionHits.{HasAdded, HaveStem}
-use Rattle.region_sim.specs.Sensitized.{HasBegun}
-use Rattle.block_sim.proofs.Public.{large_enough, large_on}
+use Rattle.flat_circuit.specs.{declared.origin.ListedClass.ListedClass, Readers.IsObserved}
+use Rattle.region_sim.specs.{OpenPlaces.{AgreeFrom, AreSettled}, RegionHits.{HasAdded, HaveStem}}
+use Rattle.region_sim.{specs.Sensitized.HasBegun, proofs.PackedRegions.{added_more, added_none}}
 use Rattle.region_sim.proofs.RegionHits.{as_many, at_more, at_over, closed_more, listed_at}
 use Rattle.region_sim.proofs.RegionHits.{open_more, order_more, others_more, others_over}
 use Rattle.region_sim.proofs.RegionHits.{settled_from, settled_there, stems_more, stems_over}
 use Rattle.region_sim.proofs.RegionHits.{still_more, taken_more, taken_over}
-use Rattle.region_sim.proofs.PackedRegions.{added_more, added_none}
+use Rattle.bench_net.specs.Statement.{Statement}
+use Rattle.block_sim.specs.declared.propagation.Followed.{Followed}
+use Rattle.block_sim.proofs.Public.{large_enough, large_on}
 use Rattle.region_sim.proofs.region_simulation.follow_region.Goals as goal
 
 -- the first row of the region, as it was begun with
@@ -39,8 +35,7 @@ loop-place-init g c = record {
   still = λ first before le agree at was. was;
   ordered = λ first le at was. was;
   at = λ first le before. before;
-  added = added_none c.args.job.now c.args.span c.row_at-stem.result.stem
-      c.args.followed.now.items;
+  added = added_none c.args.job.now c.args.span c.row_at-stem.result.stem c.args.followed.now.items;
   others = λ place h. refl;
   closed = λ place one is off. refl;
   idle = λ before agree was. was;
@@ -85,8 +80,7 @@ loop-place-preserved-then-not-is_open g c =
     (omega (arith, c.loop-place-test.true, places, long)) in
     let settled : AreSettled wants first_kept p q =
     settled_from wants first_kept p q own (sym here ∙ own_was)
-    (sym c.is_open.ensures ∙ c.if-not-is_open.true)
-    (c.requires.next.between p q step) in
+    (sym c.is_open.ensures ∙ c.if-not-is_open.true) (c.requires.next.between p q step) in
     let there = λ (l : List _) (agree : AgreeFrom from l first_kept).
     settled_there wants from p q l first_kept low agree settled in
     record {

@@ -1,6 +1,5 @@
 use Rattle.std.proofs.Common.{inl, inr, refl, subst}
-use Rattle.region_sim.specs.Arrivals.{HasArrived}
-use Rattle.region_sim.proofs.SpanHits.{takes_span, tells_known}
+use Rattle.region_sim.{specs.Arrivals.HasArrived, proofs.SpanHits.{takes_span, tells_known}}
 use Rattle.region_sim.proofs.region_simulation.follow_row.Goals as goal
 
 pub returns-in-Known-clause-taken : goal.returns-in-Known-clause-taken

@@ -1,7 +1,6 @@
 use Rattle.std.proofs.Common.{◌∙◌, ap, arith, inl, inr, length, refl}
 use Rattle.block_sim.proofs.Public.{large_enough, large_on}
-use Rattle.region_sim.proofs.PackedRegions.{gathered_none}
-use Rattle.region_sim.proofs.RegionHits.{closed_on, next_still}
+use Rattle.region_sim.proofs.{PackedRegions.gathered_none, RegionHits.{closed_on, next_still}}
 use Rattle.region_sim.proofs.region_simulation.gather_regions.Goals as goal
 
 pub loop-at-init : goal.loop-at-init

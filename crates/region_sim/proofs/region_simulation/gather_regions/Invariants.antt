@@ -1,8 +1,7 @@
 use Rattle.std.proofs.Common.{◌≡◌, ◌⊎◌, ◌-◌, ◌<◌, ◌≤◌, ℕ, [], length}
 use Rattle.std.specs.Prelude.{slice_get, vec_capacity, vec_len}
 use Rattle.block_sim.specs.PropagationState.{IsAsLarge, IsClear}
-use Rattle.region_sim.specs.OpenPlaces.{KeepsClosed}
-use Rattle.region_sim.specs.RegionHits.{AreGathered, HasSameRoom}
+use Rattle.region_sim.specs.{OpenPlaces.KeepsClosed, RegionHits.{AreGathered, HasSameRoom}}
 use Rattle.region_sim.proofs.region_simulation.gather_regions.Given as goal
 
 abbrev pub invariant-loop-at : goal.invariant-loop-at

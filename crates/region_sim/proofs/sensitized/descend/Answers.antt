@@ -1,12 +1,10 @@
 use Rattle.std.proofs.Common.{◌≡◌, ◌<◌, ◌∙◌, ℕ, List, ap, arith, length, refl, subst, sym}
-use Rattle.std.specs.Prelude.{None, Some}
-use Rattle.std.proofs.lemmas.List.{length-set}
+use Rattle.std.{specs.Prelude.{None, Some}, proofs.lemmas.List.length-set}
 use Rattle.fault_model.specs.Solution.{Test}
 use Rattle.region_sim.specs.Sensitized.{AreKnownFlips, CarriesFlip, IsPathTo, on_from}
-use Rattle.flat_circuit.specs.Words.{AreWords}
-use Rattle.flat_circuit.proofs.Public.{pin_law}
-use Rattle.block_sim.proofs.Public.{large_enough, large_none, large_on, read_within}
 use Rattle.region_sim.proofs.SensitizedLanes.{flips_more, no_path, path_shorter, same_first}
+use Rattle.flat_circuit.{specs.Words.AreWords, proofs.Public.pin_law}
+use Rattle.block_sim.proofs.Public.{large_enough, large_none, large_on, read_within}
 use Rattle.region_sim.proofs.sensitized.descend.Goals as goal
 
 pub loop-signal-init : goal.loop-signal-init
@@ -15,8 +13,7 @@ loop-signal-init c = record {
   first = refl;
   known = λ mask stem before e. (
     before,
-    λ tests group words. before.each c.args.from.signal c.args.from.lanes e tests group
-        words,
+    λ tests group words. before.each c.args.from.signal c.args.from.lanes e tests group words,
   );
   signals = refl;
   capacity = refl;

@@ -1,7 +1,5 @@
-use Rattle.std.proofs.Common.{◌≡◌, ◌∙◌, refl, subst, sym}
-use Rattle.std.specs.Prelude.{Some}
-use Rattle.flat_circuit.specs.Regions.{IsStemOf}
-use Rattle.flat_circuit.specs.Stuck.{stuck_fault}
+use Rattle.std.{proofs.Common.{◌≡◌, ◌∙◌, refl, subst, sym}, specs.Prelude.Some}
+use Rattle.flat_circuit.specs.{Regions.IsStemOf, Stuck.stuck_fault}
 use Rattle.block_sim.proofs.Public.{come_nowhere}
 use Rattle.region_sim.proofs.SensitizedLanes.{come_to_stem}
 use Rattle.region_sim.proofs.sensitized.follow_within.Goals as goal

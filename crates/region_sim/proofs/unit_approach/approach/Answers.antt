@@ -1,29 +1,21 @@
 use Rattle.std.proofs.Common.{◌≡◌, ◌<◌, ◌∙◌, ◌+◌, ◌*◌, ℕ, ap, arith, refl, subst, sym}
-use Rattle.std.specs.Prelude.{Contains, Option, bit_and, unwrap_or}
-use Rattle.std.specs.Bool.{Decides}
+use Rattle.std.specs.{Prelude.{Contains, Option, bit_and, unwrap_or}, Bool.Decides}
 use Rattle.std.proofs.lemmas.Bool.{false≢true}
-use Rattle.fault_model.specs.Detection.{LooksBack}
-use Rattle.fault_model.specs.Fault.{Fault, faults}
+use Rattle.fault_model.specs.{Detection.LooksBack, Fault.{Fault, faults}}
 use Rattle.fault_model.specs.Reordered.{moved_fault, place}
-use Rattle.wide_words.specs.Layouts.{both_layout}
-use Rattle.wide_words.specs.Wide.{number}
+use Rattle.wide_words.specs.{Layouts.both_layout, Wide.number}
 use Rattle.region_sim.specs.declared.unit_start.WideReach.TheVariants.{Observed}
-use Rattle.flat_circuit.specs.Readers.{IsObserved}
-use Rattle.flat_circuit.specs.Origins.{IsStuckOf}
-use Rattle.flat_circuit.specs.Regions.{IsStemOfLine}
-use Rattle.flat_circuit.specs.Stuck.{stuck_fault}
 use Rattle.region_sim.specs.Units.{HaveCome, IsWideReached, group_in}
-use Rattle.flat_circuit.specs.Words.{lane, test_of}
+use Rattle.region_sim.proofs.UnitApproaches.{comes_in_unit, known_in_unit}
+use Rattle.flat_circuit.specs.{Readers.IsObserved, Origins.IsStuckOf, Regions.IsStemOfLine}
+use Rattle.flat_circuit.specs.{Stuck.stuck_fault, Words.{lane, test_of}}
 use Rattle.flat_circuit.proofs.Public.{reordered, within_there, circuit_there, listed_there}
 use Rattle.flat_circuit.proofs.Public.{starts_there, lane_zero, same_readers}
-use Rattle.block_sim.proofs.Public.{observed_flip}
-use Rattle.block_sim.proofs.Public.{same_stems}
-use Rattle.region_sim.proofs.UnitApproaches.{comes_in_unit, known_in_unit}
+use Rattle.block_sim.proofs.Public.{observed_flip, same_stems}
 use Rattle.region_sim.proofs.unit_approach.approach.Goals as goal
 
 pub launch_in_unit-launch-requires-clause-stuck : goal.launch_in_unit-launch-requires-clause-stuck
-launch_in_unit-launch-requires-clause-stuck c =
-    (c.requires.row.stands.0, c.requires.row.stands.2)
+launch_in_unit-launch-requires-clause-stuck c = (c.requires.row.stands.0, c.requires.row.stands.2)
 
 pub origin_of-origin-requires : goal.origin_of-origin-requires
 origin_of-origin-requires c =
@@ -255,10 +247,7 @@ returns-else-is_observed-clause-approach c =
       fault,
       o.1,
       λ k lt. (
-        λ h. (
-          ap (λ w. lane w k) c.and-lanes.ensures ∙ ((both k lt).0 h).0,
-          ((both k lt).0 h).1,
-        ),
+        λ h. (ap (λ w. lane w k) c.and-lanes.ensures ∙ ((both k lt).0 h).0, ((both k lt).0 h).1),
         λ p. (both k lt).1 (sym (ap (λ w. lane w k) c.and-lanes.ensures) ∙ p.0, p.1),
       ),
     )

@@ -2,8 +2,7 @@ use Rattle.std.proofs.Common.{◌≡◌, ◌<◌, ◌+◌, ◌*◌, ◌/◌, ◌
 use Rattle.std.specs.Bool.{Decides}
 use Rattle.fault_model.specs.Detection.{LooksBack}
 use Rattle.wide_words.specs.Layouts.{one_of}
-use Rattle.flat_circuit.specs.Words.{lane}
-use Rattle.flat_circuit.proofs.Public.{of_four}
+use Rattle.flat_circuit.{specs.Words.lane, proofs.Public.of_four}
 use Rattle.region_sim.proofs.unit_approach.launch_in_unit.Goals as goal
 
 pub returns : goal.returns

@@ -1,8 +1,6 @@
-use Rattle.std.proofs.Common.{◌≡◌, ◌+◌, ℕ, List, arith, length, subst}
-use Rattle.std.specs.Prelude.{None}
+use Rattle.std.{proofs.Common.{◌≡◌, ◌+◌, ℕ, List, arith, length, subst}, specs.Prelude.None}
 use Rattle.bench_net.specs.Scan.{names}
-use Rattle.flat_circuit.specs.Words.{AreWords}
-use Rattle.flat_circuit.proofs.Public.{of_four}
+use Rattle.flat_circuit.{specs.Words.AreWords, proofs.Public.of_four}
 use Rattle.region_sim.proofs.unit_approach.unit_view.Goals as goal
 
 pub returns : goal.returns

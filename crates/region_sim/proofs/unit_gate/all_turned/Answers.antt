@@ -1,13 +1,10 @@
-use Rattle.std.proofs.Common.{◌<◌, ◌∙◌, ap, arith, length, subst, sym}
-use Rattle.std.specs.List.{list_all}
+use Rattle.std.{proofs.Common.{◌<◌, ◌∙◌, ap, arith, length, subst, sym}, specs.List.list_all}
 use Rattle.std.proofs.lemmas.List.{length-map, take_all}
-use Rattle.patterns.specs.Least.{below}
-use Rattle.patterns.proofs.Public.{get_or-below, length-below}
+use Rattle.patterns.{specs.Least.below, proofs.Public.{get_or-below, length-below}}
 use Rattle.wide_words.specs.Wide.{number}
-use Rattle.flat_circuit.specs.GateForms.{inverted_if}
-use Rattle.region_sim.specs.Units.{turned_bit, turned_bits}
-use Rattle.flat_circuit.specs.Words.{lane}
+use Rattle.flat_circuit.specs.{GateForms.inverted_if, Words.lane}
 use Rattle.flat_circuit.proofs.Public.{turned_lane, lane_and, all_more}
+use Rattle.region_sim.specs.Units.{turned_bit, turned_bits}
 use Rattle.region_sim.proofs.unit_gate.all_turned.Goals as goal
 
 pub loop-place-init : goal.loop-place-init
@@ -31,8 +28,7 @@ loop-place-preserved g c =
           ∙ all_more bit (below (length pins)) (λ b. inverted_if turn b) c.loop-place.place
           (lane (number c.loop-place.all) k) (lane (number c.xor.result) k)
           (subst (λ n. c.loop-place.place < n) (sym (length-below (length pins))) more)
-          (c.loop-place.invariant.all k lt)
-          (ap (λ n. lane n k) c.xor.ensures
+          (c.loop-place.invariant.all k lt) (ap (λ n. lane n k) c.xor.ensures
           ∙ (turned_lane (number word) (number c.in_each_wide_lane-inverted.result) k turn
           (c.in_each_wide_lane-inverted.ensures k lt)
           ∙ ap (inverted_if turn) (c.word_of_pin-word.ensures k lt

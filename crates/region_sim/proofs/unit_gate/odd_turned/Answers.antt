@@ -1,12 +1,10 @@
 use Rattle.std.proofs.Common.{◌<◌, ◌∙◌, ap, arith, length, subst, sym}
 use Rattle.std.proofs.lemmas.List.{length-map, take_all}
 use Rattle.fault_model.specs.Solution.{is_odd}
-use Rattle.patterns.specs.Least.{below}
-use Rattle.patterns.proofs.Public.{get_or-below, length-below}
+use Rattle.patterns.{specs.Least.below, proofs.Public.{get_or-below, length-below}}
 use Rattle.wide_words.specs.Wide.{number}
 use Rattle.region_sim.specs.Units.{turned_bit, turned_bits}
-use Rattle.flat_circuit.specs.Words.{lane}
-use Rattle.flat_circuit.proofs.Public.{lane_xor, lane_zero, odd_more}
+use Rattle.flat_circuit.{specs.Words.lane, proofs.Public.{lane_xor, lane_zero, odd_more}}
 use Rattle.region_sim.proofs.unit_gate.odd_turned.Goals as goal
 
 pub loop-place-init : goal.loop-place-init
@@ -24,13 +22,11 @@ loop-place-preserved g c =
       odd = λ k lt.
           let bit = turned_bit g.C.Copies.layout (g.C.Copies.rows c.args.copies) c.args.turned
           (number c.args.lanes) pins k in
-          ap (λ n. lane n k) c.xor-odd.ensures
-          ∙ (lane_xor (number c.loop-place.odd) (number word) k
+          ap (λ n. lane n k) c.xor-odd.ensures ∙ (lane_xor (number c.loop-place.odd) (number word) k
           ∙ odd_more bit (below (length pins)) c.loop-place.place
           (lane (number c.loop-place.odd) k) (lane (number word) k)
           (subst (λ n. c.loop-place.place < n) (sym (length-below (length pins))) more)
-          (c.loop-place.invariant.odd k lt)
-          (c.word_of_pin-word.ensures k lt
+          (c.loop-place.invariant.odd k lt) (c.word_of_pin-word.ensures k lt
           ∙ sym (ap bit (get_or-below (length pins) c.loop-place.place 0 more))));
       within = omega (arith, more);
     }

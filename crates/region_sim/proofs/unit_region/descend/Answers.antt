@@ -1,15 +1,12 @@
 use Rattle.std.proofs.Common.{◌≡◌, ◌<◌, ◌∙◌, ℕ, List, ap, arith, length, refl, subst, sym}
-use Rattle.std.specs.Prelude.{Some}
-use Rattle.std.proofs.lemmas.List.{length-set}
+use Rattle.std.{specs.Prelude.Some, proofs.lemmas.List.length-set}
 use Rattle.fault_model.specs.Solution.{Test}
 use Rattle.wide_words.specs.Wide.{number}
-use Rattle.region_sim.specs.Pack.{AreRows}
-use Rattle.region_sim.specs.Sensitized.{IsPathTo, on_from}
-use Rattle.region_sim.specs.Units.{AreKnownInUnit, CarryFlip}
+use Rattle.region_sim.specs.{Pack.AreRows, Sensitized.{IsPathTo, on_from}}
+use Rattle.region_sim.{specs.Units.{AreKnownInUnit, CarryFlip}, proofs.UnitRegions.known_more}
+use Rattle.region_sim.proofs.SensitizedLanes.{no_path, path_shorter, same_first}
 use Rattle.flat_circuit.proofs.Public.{pin_law}
 use Rattle.block_sim.proofs.Public.{read_within}
-use Rattle.region_sim.proofs.SensitizedLanes.{no_path, path_shorter, same_first}
-use Rattle.region_sim.proofs.UnitRegions.{known_more}
 use Rattle.region_sim.proofs.unit_region.descend.Goals as goal
 
 pub loop-signal-init : goal.loop-signal-init

@@ -2,8 +2,7 @@ use Rattle.std.proofs.Common.{◌≡◌, ℕ, List, length}
 use Rattle.std.specs.Prelude.{None, Some, slice_index_or, vec_capacity, vec_len}
 use Rattle.fault_model.specs.Solution.{Test}
 use Rattle.wide_words.specs.Wide.{number}
-use Rattle.region_sim.specs.Pack.{AreRows}
-use Rattle.region_sim.specs.Sensitized.{IsPathTo, on_from}
+use Rattle.region_sim.specs.{Pack.AreRows, Sensitized.{IsPathTo, on_from}}
 use Rattle.region_sim.specs.Units.{AreKnownInUnit, CarryFlip}
 use Rattle.region_sim.proofs.unit_region.descend.Given as goal
 
@@ -14,8 +13,7 @@ invariant-loop-signal g l = record {
   known : (stem : ℕ) → AreKnownInUnit l.circuit.arranged g.C.Copies.layout
       (g.C.Copies.rows l.copies) stem l.fn.known
       → slice_index_or l.fn.known l.fn.from.signal None ≡ Some l.fn.from.lanes
-      → AreKnownInUnit l.circuit.arranged g.C.Copies.layout (g.C.Copies.rows l.copies) stem
-      l.known
+      → AreKnownInUnit l.circuit.arranged g.C.Copies.layout (g.C.Copies.rows l.copies) stem l.known
       × ((tests : List Test) (group : ℕ → ℕ)
       → AreRows l.circuit.arranged tests g.C.Copies.layout group (g.C.Copies.rows l.copies)
       → CarryFlip l.circuit.arranged tests g.C.Copies.layout group l.at.signal stem

@@ -1,9 +1,7 @@
-use Rattle.std.proofs.Common.{◌≡◌, ◌∙◌, ap, map, sym}
-use Rattle.std.proofs.lemmas.Bool.{false≢true}
+use Rattle.std.proofs.{Common.{◌≡◌, ◌∙◌, ap, map, sym}, lemmas.Bool.false≢true}
 use Rattle.bench_net.specs.Scan.{signal}
 use Rattle.wide_words.specs.Wide.{number}
-use Rattle.flat_circuit.specs.Words.{lane}
-use Rattle.flat_circuit.proofs.Public.{lane_zero, pin_law, reader_within}
+use Rattle.flat_circuit.{specs.Words.lane, proofs.Public.{lane_zero, pin_law, reader_within}}
 use Rattle.block_sim.proofs.Public.{gate_named_of_signal_equations as gate_named}
 use Rattle.region_sim.proofs.UnitRegions.{carry_before, passes_back, passes_there}
 use Rattle.region_sim.proofs.unit_region.lanes_before.Goals as goal
@@ -31,12 +29,9 @@ returns-then-is_none g c = λ tests group stem rows carried.
     carry_before c.args.circuit.now.arranged tests g.C.Copies.layout group stem c.args.signal
     c.args.gate.signal (number c.args.gate.lanes) (number c.none.result)
     c.requires.circuit.well_formed c.requires.read carried
-    (λ k e. absurd (false≢true (sym (lane_zero k)
-    ∙ (sym (ap (λ w. lane w k) c.none.ensures) ∙ e))))
-    (λ k lt on p. absurd (false≢true (sym (lane_zero k)
-    ∙ (sym (ap (λ w. lane w k) empty) ∙ on))))
-    (λ k lt on e. absurd (false≢true (sym (lane_zero k)
-    ∙ (sym (ap (λ w. lane w k) empty) ∙ on))))
+    (λ k e. absurd (false≢true (sym (lane_zero k) ∙ (sym (ap (λ w. lane w k) c.none.ensures) ∙ e))))
+    (λ k lt on p. absurd (false≢true (sym (lane_zero k) ∙ (sym (ap (λ w. lane w k) empty) ∙ on))))
+    (λ k lt on e. absurd (false≢true (sym (lane_zero k) ∙ (sym (ap (λ w. lane w k) empty) ∙ on))))
 
 pub returns : goal.returns
 returns g c = λ tests group stem rows carried.

@@ -1,6 +1,5 @@
 use Rattle.std.proofs.Common.{◌≡◌, ◌+◌, ◌∙◌, ap, arith, inl, inr, refl, subst, sym}
-use Rattle.std.specs.Prelude.{Some, slice_get}
-use Rattle.std.proofs.lemmas.Bool.{cases_eq}
+use Rattle.std.{specs.Prelude.{Some, slice_get}, proofs.lemmas.Bool.cases_eq}
 use Rattle.std.proofs.lemmas.Option.{slice_get_within}
 use Rattle.block_sim.specs.declared.propagation.Followed.{Followed}
 use Rattle.flat_circuit.proofs.Public.{index_of}

@@ -1,5 +1,4 @@
-use Rattle.std.proofs.Common.{◌≡◌, ◌+◌, ◌≤◌}
-use Rattle.std.specs.Prelude.{vec_capacity, vec_len}
+use Rattle.std.{proofs.Common.{◌≡◌, ◌+◌, ◌≤◌}, specs.Prelude.{vec_capacity, vec_len}}
 use Rattle.region_sim.proofs.UnitParts.{ArePartsOf}
 use Rattle.region_sim.proofs.unit_simulation.add_parts.Given as goal
 

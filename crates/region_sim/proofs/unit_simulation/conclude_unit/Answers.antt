@@ -1,11 +1,9 @@
 use Rattle.std.proofs.Common.{◌≡◌, ◌<◌, ap, arith, length, refl, sym, ◌∙◌, subst}
-use Rattle.std.specs.Prelude.{Some, slice_get}
-use Rattle.std.proofs.lemmas.Option.{slice_get_within}
+use Rattle.std.{specs.Prelude.{Some, slice_get}, proofs.lemmas.Option.slice_get_within}
 use Rattle.wide_words.specs.Wide.{number}
-use Rattle.region_sim.specs.UnitHits.{HasTakenUnitAt}
-use Rattle.flat_circuit.proofs.Public.{index_of}
+use Rattle.region_sim.{specs.UnitHits.HasTakenUnitAt, proofs.UnitHits.units_more}
 use Rattle.region_sim.proofs.RegionHits.{member_at, place_of_member, some_at}
-use Rattle.region_sim.proofs.UnitHits.{units_more}
+use Rattle.flat_circuit.proofs.Public.{index_of}
 use Rattle.region_sim.proofs.unit_simulation.conclude_unit.Goals as goal
 
 pub take_unit_at-requires-clause-place : goal.take_unit_at-requires-clause-place

@@ -1,11 +1,8 @@
-use Rattle.std.proofs.Common.{ap, arith, subst, sym}
-use Rattle.std.specs.Prelude.{vec_capacity}
-use Rattle.wide_words.specs.Layouts.{both_layout}
-use Rattle.wide_words.specs.Wide.{number}
-use Rattle.region_sim.specs.Pack.{AreSlots, TellsPack}
-use Rattle.region_sim.specs.Units.{group_in}
-use Rattle.flat_circuit.proofs.Public.{count_there, reordered, circuit_there}
+use Rattle.std.{proofs.Common.{ap, arith, subst, sym}, specs.Prelude.vec_capacity}
+use Rattle.wide_words.specs.{Layouts.both_layout, Wide.number}
+use Rattle.region_sim.specs.{Pack.{AreSlots, TellsPack}, Units.group_in}
 use Rattle.region_sim.proofs.UnitFlips.{taken_in_unit, unit_slots}
+use Rattle.flat_circuit.proofs.Public.{count_there, reordered, circuit_there}
 use Rattle.region_sim.proofs.unit_simulation.flip_unit.Goals as goal
 
 pub propagate-seen-requires-clause-circuit : goal.propagate-seen-requires-clause-circuit
@@ -25,10 +22,7 @@ propagate-seen-requires-clause-room g c =
     view.together.circuit.well_formed view.arranged in
     let deltas = c.requires.pack.deltas in
     let waiting = c.requires.pack.waiting in
-    record {
-      deltas = omega (arith, same, deltas);
-      gates = omega (arith, same, waiting);
-    }
+    record { deltas = omega (arith, same, deltas); gates = omega (arith, same, waiting) }
 
 pub propagate-seen-requires-clause-slots : goal.propagate-seen-requires-clause-slots
 propagate-seen-requires-clause-slots g c =

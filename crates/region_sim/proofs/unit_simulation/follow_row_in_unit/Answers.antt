@@ -1,11 +1,9 @@
-use Rattle.std.proofs.Common.{◌∙◌, arith, inl, inr, refl, subst, sym}
-use Rattle.std.proofs.lemmas.Bool.{false≢true}
+use Rattle.std.proofs.{Common.{◌∙◌, arith, inl, inr, refl, subst, sym}, lemmas.Bool.false≢true}
 use Rattle.wide_words.specs.Wide.{number}
-use Rattle.flat_circuit.specs.Readers.{IsLive}
+use Rattle.flat_circuit.{specs.Readers.IsLive, proofs.Public.within_there}
 use Rattle.region_sim.specs.Units.{unit_span}
-use Rattle.flat_circuit.proofs.Public.{within_there}
-use Rattle.block_sim.proofs.Public.{dead_class}
 use Rattle.region_sim.proofs.UnitApproaches.{takes_unit, unit_known, unit_none}
+use Rattle.block_sim.proofs.Public.{dead_class}
 use Rattle.region_sim.proofs.unit_simulation.follow_row_in_unit.Goals as goal
 
 pub is_live-requires : goal.is_live-requires
@@ -26,8 +24,7 @@ returns-then-not-is_live-clause-taken g c =
     let took = c.take_unit_at.ensures.taken in
     let none = dead_class job there view.together view.arranged c.args.row c.requires.row
     (λ live. false≢true (sym c.if-not-is_live.true
-    ∙ c.is_live.ensures.1 (subst (IsLive there) (sym c.requires.at) live)))
-    (unit_span group) in
+    ∙ c.is_live.ensures.1 (subst (IsLive there) (sym c.requires.at) live))) (unit_span group) in
     inl (
       refl,
       c.take_unit_at.ensures.places,
@@ -65,15 +62,14 @@ returns-in-Known-clause-taken g c =
     )
 
 pub returns-in-AtStem-clause-taken : goal.returns-in-AtStem-clause-taken
-returns-in-AtStem-clause-taken g c =
-    inr (
-      refl,
-      record { class = c.args.row.class; place = c.args.place; lanes = c.in-AtStem.lanes },
-      refl,
-      refl,
-      c.in-AtStem.ensures.approach,
-      c.push_reserved.ensures.items,
-    )
+returns-in-AtStem-clause-taken g c = inr (
+  refl,
+  record { class = c.args.row.class; place = c.args.place; lanes = c.in-AtStem.lanes },
+  refl,
+  refl,
+  c.in-AtStem.ensures.approach,
+  c.push_reserved.ensures.items,
+)
 
 pub returns-in-Known-clause-hidden : goal.returns-in-Known-clause-hidden
 returns-in-Known-clause-hidden g c = inl refl

@@ -1,18 +1,12 @@
 use Rattle.std.proofs.Common.{◌≡◌, ◌⊎◌, ◌+◌, ◌<◌, ◌≤◌, ◌∙◌, ℕ, List, [], ap, arith, inl, inr}
-use Rattle.std.proofs.Common.{length, refl, sym, subst}
+use Rattle.std.proofs.{Common.{length, refl, sym, subst}, lemmas.Option.slice_get-get_or}
 use Rattle.std.specs.Prelude.{Contains, Some, slice_get, slice_index_or}
-use Rattle.std.proofs.lemmas.Option.{slice_get-get_or}
 use Rattle.bench_net.specs.Statement.{Statement}
 use Rattle.fault_model.specs.Reordered.{place}
-use Rattle.flat_circuit.specs.declared.origin.ListedClass.{ListedClass}
-use Rattle.region_sim.specs.declared.unit_simulation.UnitClass.{UnitClass}
-use Rattle.flat_circuit.specs.Readers.{IsObserved}
-use Rattle.region_sim.specs.OpenPlaces.{AreSettled}
-use Rattle.region_sim.specs.Goals.{HasTakenAt}
-use Rattle.region_sim.specs.RegionHits.{HaveStem}
-use Rattle.region_sim.specs.UnitHits.{HaveArrivedInUnit, IsClassAt}
-use Rattle.region_sim.specs.Units.{unit_span}
-use Rattle.region_sim.proofs.FollowedRows.{each_over}
+use Rattle.flat_circuit.specs.{declared.origin.ListedClass.ListedClass, Readers.IsObserved}
+use Rattle.region_sim.specs.{declared.unit_simulation.UnitClass.UnitClass, OpenPlaces.AreSettled}
+use Rattle.region_sim.specs.{Goals.HasTakenAt, RegionHits.HaveStem, Units.unit_span}
+use Rattle.region_sim.{specs.UnitHits.{HaveArrivedInUnit, IsClassAt}, proofs.FollowedRows.each_over}
 use Rattle.region_sim.proofs.FollowedUnits.{arrived_more, as_many, at_more, at_over, closed_more}
 use Rattle.region_sim.proofs.FollowedUnits.{one_more, open_more, order_more, others_more}
 use Rattle.region_sim.proofs.FollowedUnits.{still_more, taken_more}
@@ -97,8 +91,7 @@ loop-place-preserved-then-not-is_open g c =
     (omega (arith, c.loop-place-test.true, places, long)) in
     let settled : AreSettled wants first_kept p q =
     settled_from wants first_kept p q own (sym here ∙ own_was)
-    (sym c.is_open.ensures ∙ c.if-not-is_open.true)
-    (c.requires.next.between p q step) in
+    (sym c.is_open.ensures ∙ c.if-not-is_open.true) (c.requires.next.between p q step) in
     record {
       low = inl (omega (arith, after, up));
       within = within;
@@ -165,8 +158,7 @@ loop-place-preserved g c =
     let here = before.others p (inr (omega arith)) in
     let step = c.follow_row_in_unit.ensures.taken in
     let of : row.stem ≡ stem = c.if-row-stem.false in
-    let count : length was < 256 =
-    (let all = ap length c.as_slice-count.ensures.value in
+    let count : length was < 256 = (let all = ap length c.as_slice-count.ensures.value in
     omega (arith, all, c.if-count-ge-MOST.false)) in
     let q = c.next_open-place-in-loop-place.result in
     let next = c.next_open-place-in-loop-place.ensures in
@@ -191,8 +183,7 @@ loop-place-preserved g c =
           (stems_more wants rows first_kept from p stem row is of before.stems);
       taken = each_over wants rows first_kept from (p + 1) q
           (λ place one. HasTakenAt means job (unit_span group) one first_kept now place
-          ⊎ (IsClassAt classes place × (slice_get now place ≡ slice_get first_kept place)))
-          settled
+          ⊎ (IsClassAt classes place × (slice_get now place ≡ slice_get first_kept place))) settled
           (taken_more wants means job group row p was classes old now step rows first_kept from is
           here before.taken);
       at = at_over rows from (p + 1) q classes le

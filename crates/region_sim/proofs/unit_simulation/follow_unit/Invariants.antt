@@ -2,8 +2,7 @@ use Rattle.std.proofs.Common.{◌≡◌, ◌⊎◌, ◌-◌, ◌<◌, ◌≤◌,
 use Rattle.std.specs.Prelude.{slice_get, vec_capacity}
 use Rattle.wide_words.specs.Layouts.{both_layout}
 use Rattle.flat_circuit.specs.Readers.{IsObserved}
-use Rattle.region_sim.specs.RegionHits.{HaveStem}
-use Rattle.region_sim.specs.OpenPlaces.{KeepsClosed}
+use Rattle.region_sim.specs.{RegionHits.HaveStem, OpenPlaces.KeepsClosed}
 use Rattle.region_sim.specs.UnitHits.{AreClassesAt, AreClassesInOrder, AreClassesOpen}
 use Rattle.region_sim.specs.UnitHits.{AreClassesStill, HaveArrivedInUnit, HaveTakenBeside}
 use Rattle.region_sim.specs.Units.{IsSameUnitRegion, IsUnitRegion, unit_rows}
@@ -22,8 +21,7 @@ invariant-loop-place g l = record {
   ordered : AreClassesInOrder l.classes.items;
   still : AreClassesStill l.classes.items l.fn.kept l.kept;
   arrived : HaveArrivedInUnit l.job l.group l.stem l.classes.items;
-  hidden : (l.classes.items ≡ [])
-      ⊎ (IsObserved l.view.circuit.now.arranged l.fn.region.stem → ⊥);
+  hidden : (l.classes.items ≡ []) ⊎ (IsObserved l.view.circuit.now.arranged l.fn.region.stem → ⊥);
   others : (place : ℕ) → (place < l.from) ⊎ (l.place ≤ place)
       → slice_get l.kept place ≡ slice_get l.fn.kept place;
   closed : KeepsClosed (g.G.Goal.wants l.goal) l.fn.kept l.kept;

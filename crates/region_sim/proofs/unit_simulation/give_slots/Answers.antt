@@ -1,8 +1,6 @@
 use Rattle.std.proofs.Common.{◌≡◌, ◌+◌, ◌∙◌, ap, arith, length, refl, subst, sym}
-use Rattle.std.specs.Prelude.{slice_index_or}
-use Rattle.std.proofs.lemmas.Option.{slice_get-get_or}
-use Rattle.region_sim.specs.declared.pack.Slot.{Slot}
-use Rattle.region_sim.proofs.UnitParts.{AreSlotsSoFar, slots_more}
+use Rattle.std.{specs.Prelude.slice_index_or, proofs.lemmas.Option.slice_get-get_or}
+use Rattle.region_sim.{specs.declared.pack.Slot.Slot, proofs.UnitParts.{AreSlotsSoFar, slots_more}}
 use Rattle.region_sim.proofs.unit_simulation.give_slots.Goals as goal
 
 pub returns-clause-parted : goal.returns-clause-parted

@@ -1,17 +1,14 @@
 use Rattle.std.proofs.Common.{◌≡◌, ◌<◌, ◌∙◌, ap, arith, inl, inr, length, subst, sym}
 use Rattle.std.specs.Prelude.{◌==◌, Contains, Some, slice_get, slice_index_or, unwrap_or}
-use Rattle.std.proofs.lemmas.Option.{slice_get-get_or}
-use Rattle.std.proofs.lemmas.Bool.{false≢true}
-use Rattle.std.proofs.lemmas.Bool.Decides.{Decides-eqb}
+use Rattle.std.proofs.lemmas.{Option.slice_get-get_or, Bool.false≢true, Bool.Decides.Decides-eqb}
 use Rattle.std.proofs.lemmas.List.{nil_from_length}
 use Rattle.bench_net.specs.Scan.{names}
 use Rattle.fault_model.specs.Reordered.{place}
 use Rattle.wide_words.specs.Layouts.{both_layout}
-use Rattle.flat_circuit.specs.Readers.{IsObserved}
+use Rattle.flat_circuit.{specs.Readers.IsObserved, proofs.Public.{count_there, circuit_there}}
 use Rattle.region_sim.specs.UnitHits.{AreClassesAt, AreClassesInOrder, AreClassesStill}
 use Rattle.region_sim.specs.UnitHits.{HaveArrivedInUnit, HaveTakenBeside, IsClassAt}
 use Rattle.region_sim.specs.Units.{unit_rows, unit_span}
-use Rattle.flat_circuit.proofs.Public.{count_there, circuit_there}
 use Rattle.region_sim.proofs.RegionHits.{listed_at, settled_from}
 use Rattle.region_sim.proofs.UnitFlips.{none_came, settled_taken}
 use Rattle.region_sim.proofs.unit_simulation.simulate_unit.Goals as goal
@@ -31,8 +28,7 @@ returns-then-not-is_open-clause-taken g c =
     let wants = g.G.Goal.wants c.args.goal.now in
     let kept = c.args.kept.now in
     settled_taken wants (g.G.Goal.means c.args.goal.now) c.args.job.now (unit_span c.args.group)
-    c.args.rows.now c.args.from q kept kept
-    (settled_from wants kept c.args.from q
+    c.args.rows.now c.args.from q kept kept (settled_from wants kept c.args.from q
     (slice_index_or kept c.args.from c.index-kept-from.result)
     (slice_get-get_or kept c.args.from c.index-kept-from.result
     (omega (arith, c.requires.from, c.requires.places)))
@@ -81,8 +77,7 @@ pub flip_unit-requires-clause-hidden : goal.flip_unit-requires-clause-hidden
 flip_unit-requires-clause-hidden g c =
     let there = c.unit_view-view.result.circuit.now.arranged in
     elim c.follow_unit-end.ensures.hidden [
-      | inl none ↦
-          absurd (false≢true (sym c.if-is_empty.false ∙ c.is_empty.ensures
+      | inl none ↦ absurd (false≢true (sym c.if-is_empty.false ∙ c.is_empty.ensures
           ∙ ap (λ n. n == 0) (ap length (c.as_slice-came.ensures.value ∙ none))))
       | inr h ↦ subst (λ s. IsObserved there s → ⊥) c.begin.ensures.stem h
     ]
@@ -130,8 +125,7 @@ returns-clause-taken g c =
     let mid = c.follow_unit-end.new.kept in
     let came = sym c.as_slice-came.ensures.value in
     c.flip_unit.ensures.taken row.stem rows c.args.from end c.args.kept.now
-    (c.place_of-stem.ensures.place ∙ ap (λ x. place x there row.stem)
-    c.unit_view-view.ensures.part)
+    (c.place_of-stem.ensures.place ∙ ap (λ x. place x there row.stem) c.unit_view-view.ensures.part)
     (subst (HaveArrivedInUnit job c.args.group row.stem) came
     (step.arrived row c.row_at-number.ensures))
     (subst (AreClassesAt rows c.args.from end) came step.at)
@@ -158,11 +152,9 @@ returns-clause-closed g c = λ place one is off.
     let step = c.follow_unit-end.ensures in
     let wants = g.G.Goal.wants c.args.goal.now in
     let none : IsClassAt c.as_slice-came.result.now place → ⊥ = λ h.
-    let idle = step.came_open h.0
-    (subst (λ l. Contains l h.0) c.as_slice-came.ensures.value h.1) in
+    let idle = step.came_open h.0 (subst (λ l. Contains l h.0) c.as_slice-came.ensures.value h.1) in
     let both : Some one ≡ Some idle.0 = sym is ∙ (ap (slice_get c.args.kept.now) (sym h.2) ∙ idle.1)
-    in
-    false≢true (sym off ∙ (ap (λ o. wants (unwrap_or o one)) both ∙ idle.2)) in
+    in false≢true (sym off ∙ (ap (λ o. wants (unwrap_or o one)) both ∙ idle.2)) in
     c.flip_unit.ensures.others place none ∙ step.closed place one is off
 
 pub returns-clause-unit : goal.returns-clause-unit

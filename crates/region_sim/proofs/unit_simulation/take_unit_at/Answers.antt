@@ -1,7 +1,6 @@
 use Rattle.std.proofs.Common.{◌≡◌, ◌+◌, ◌*◌, arith, refl, subst}
 use Rattle.wide_words.specs.Wide.{number}
-use Rattle.region_sim.proofs.RegionHits.{some_at}
-use Rattle.region_sim.proofs.UnitHits.{groups_more}
+use Rattle.region_sim.proofs.{RegionHits.some_at, UnitHits.groups_more}
 use Rattle.region_sim.proofs.unit_simulation.take_unit_at.Goals as goal
 
 pub loop-slot-init : goal.loop-slot-init

@@ -1,11 +1,8 @@
-use Rattle.std.proofs.Common.{◌≡◌, ◌∙◌, ap, refl, subst, sym}
-use Rattle.std.specs.Prelude.{None, Some}
+use Rattle.std.{proofs.Common.{◌≡◌, ◌∙◌, ap, refl, subst, sym}, specs.Prelude.{None, Some}}
 use Rattle.wide_words.specs.Wide.{number}
 use Rattle.block_sim.specs.Flips.{start_of}
-use Rattle.flat_circuit.specs.Stuck.{stuck_fault}
+use Rattle.flat_circuit.{specs.Stuck.stuck_fault, specs.Words.lane, proofs.Public.lane_zero}
 use Rattle.region_sim.specs.Units.{CarryFlip, HaveCome}
-use Rattle.flat_circuit.specs.Words.{lane}
-use Rattle.flat_circuit.proofs.Public.{lane_zero}
 use Rattle.region_sim.proofs.UnitStarts.{come_to_dead, come_to_stem, start_within}
 use Rattle.region_sim.proofs.unit_start.follow_to_stem.Goals as goal
 
@@ -22,16 +19,14 @@ returns-then-is_none-clause-reached g c = λ tests group rows.
     g.C.Copies.layout group c.args.origin.fault.model (stuck_fault c.args.origin.fault)
     c.requires.listed (number c.args.lanes) c.in-Some.first c.args.region.now.stem
     (number c.lanes_of-at.result) (sym c.first_signal.ensures ∙ c.in-Some.is)
-    (c.lanes_of-at.ensures.carries tests group rows)
-    (λ k. ap (λ w. lane w k) empty ∙ lane_zero k)
+    (c.lanes_of-at.ensures.carries tests group rows) (λ k. ap (λ w. lane w k) empty ∙ lane_zero k)
 
 pub returns-in-Stem-clause-reached : goal.returns-in-Stem-clause-reached
 returns-in-Stem-clause-reached g c = λ tests group rows.
     let circuit = c.args.circuit.now.arranged in
     let fault = stuck_fault c.args.origin.fault in
     let both : Some c.in-Some.first ≡ Some c.in-Stem.from.signal =
-    sym (sym c.first_signal.ensures ∙ c.in-Some.is)
-    ∙ c.in-Stem.ensures.from c.in-Stem.from refl in
+    sym (sym c.first_signal.ensures ∙ c.in-Some.is) ∙ c.in-Stem.ensures.from c.in-Stem.from refl in
     let same : c.in-Some.first ≡ c.in-Stem.from.signal = cc in
     subst (HaveCome circuit tests g.C.Copies.layout group fault (number c.args.lanes)
     c.args.region.now.stem) (sym c.and-lanes.ensures)

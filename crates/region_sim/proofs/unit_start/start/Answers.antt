@@ -3,17 +3,14 @@ use Rattle.std.specs.Prelude.{None, Some}
 use Rattle.bench_net.specs.Scan.{definition, gate_line, name_of, names, signal}
 use Rattle.bench_net.proofs.Public.{name_of-signal}
 use Rattle.list_lemmas.proofs.Places.{place_within}
-use Rattle.fault_model.specs.Detection.{argument, name_on}
-use Rattle.fault_model.proofs.Public.{carries}
+use Rattle.fault_model.{specs.Detection.{argument, name_on}, proofs.Public.carries}
 use Rattle.wide_words.specs.Wide.{number}
 use Rattle.block_sim.specs.Flips.{start_of}
-use Rattle.flat_circuit.specs.Stuck.{stuck_fault}
-use Rattle.flat_circuit.specs.Words.{lane}
+use Rattle.flat_circuit.specs.{Stuck.stuck_fault, Words.lane, SlotWords.copied_bit}
 use Rattle.flat_circuit.proofs.Public.{gate_within, pin_of, lane_and, lane_xor, unlike}
-use Rattle.flat_circuit.specs.SlotWords.{copied_bit}
 use Rattle.region_sim.proofs.UnitStarts.{at_signal, observer_comes, pin_comes, stem_comes}
-use Rattle.region_sim.proofs.unit_start.start.Goals as goal
 use Rattle.region_sim.proofs.unit_start.start.Goals.{After-and-excited}
+use Rattle.region_sim.proofs.unit_start.start.Goals as goal
 
 pub of-requires : goal.of-requires
 of-requires g c = λ slot low.
@@ -31,8 +28,7 @@ lanes_are : (g : _) (c : After-and-excited g) → (k : ℕ) → k < 512
     → lane (number c.and-excited.result) k
     ≡ (unlike (copied_bit g.C.Copies.layout (g.C.Copies.rows c.args.copies) k c.args.origin.carried)
     c.args.origin.fault.at_one && lane (number c.args.lanes) k)
-lanes_are g c k lt =
-    ap (λ w. lane w k) c.and-excited.ensures
+lanes_are g c k lt = ap (λ w. lane w k) c.and-excited.ensures
     ∙ (lane_and (number c.xor.result) (number c.args.lanes) k
     ∙ ap (λ b. b && lane (number c.args.lanes) k) (ap (λ w. lane w k) c.xor.ensures
     ∙ (lane_xor (number c.of.result) (number c.in_each_wide_lane-stuck.result) k

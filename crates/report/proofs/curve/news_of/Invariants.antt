@@ -1,5 +1,4 @@
-use Rattle.std.proofs.Common.{◌≡◌, ◌<◌, ℕ, List, get_or, length, take}
-use Rattle.std.specs.Prelude.{Option}
+use Rattle.std.{proofs.Common.{◌≡◌, ◌<◌, ℕ, List, get_or, length, take}, specs.Prelude.Option}
 use Rattle.report.specs.Curve.{news_at}
 use Rattle.report.proofs.curve.news_of.Given as goal
 

@@ -36,13 +36,11 @@ loop-test-preserved c =
           omega (arith, so_far.0, news, below_more firsts t) in
           let some = finds_some (is_first t) firsts (omega (arith, news, w.if-more-gt0.true)) in (
             w.detected-is ∙ now,
-            ap (λ v. v.items) w.points-is
-                ∙ (w.in_ok-push.ensures.items
-                ∙ (ap (λ l. l ++ record {
-                  test = t;
-                  gained = get_or c.args.news.now t 0;
-                  detected = c.loop-test.detected + get_or c.args.news.now t 0;
-                } ∷ []) so_far.1
+            ap (λ v. v.items) w.points-is ∙ (w.in_ok-push.ensures.items ∙ (ap (λ l. l ++ record {
+              test = t;
+              gained = get_or c.args.news.now t 0;
+              detected = c.loop-test.detected + get_or c.args.news.now t 0;
+            } ∷ []) so_far.1
                 ∙ (ap (λ p. curve t firsts ++ p ∷ []) (sym (point_is firsts t _ _ news now))
                 ∙ sym (curve_point firsts t some)))),
           )

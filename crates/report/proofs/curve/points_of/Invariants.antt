@@ -1,6 +1,5 @@
 use Rattle.std.proofs.Common.{◌≡◌}
-use Rattle.report.specs.Curve.{curve}
-use Rattle.report.proofs.CurvePoints.{found_below}
+use Rattle.report.{specs.Curve.curve, proofs.CurvePoints.found_below}
 use Rattle.report.proofs.curve.points_of.Given as goal
 
 -- the points of the tests so far, and the faults whose first test is among these

@@ -1,5 +1,4 @@
-use Rattle.std.proofs.Common.{take}
-use Rattle.std.specs.List.{flat_map}
+use Rattle.std.{proofs.Common.take, specs.List.flat_map}
 use Rattle.byte_output.specs.Output.{TakesAll}
 use Rattle.report.specs.Curve.{point_line}
 use Rattle.report.proofs.curve.put_points.Given as goal

@@ -1,5 +1,4 @@
-use Rattle.std.proofs.Common.{◌≡◌, false, ap, arith, length}
-use Rattle.std.proofs.lemmas.Result.{err_from_is_err_and}
+use Rattle.std.proofs.{Common.{◌≡◌, false, ap, arith, length}, lemmas.Result.err_from_is_err_and}
 use Rattle.bench_net.proofs.Public.{some_signal}
 use Rattle.fault_model.specs.Fault.{faults}
 use Rattle.workers.specs.Verdict.{detected_count}
@@ -32,6 +31,5 @@ returns-in_err-put_coverage g c =
     (stopped_after _ _ _ _ _ c.in_ok-put_points.ensures c.in_err-put_coverage.ensures)
 
 pub returns : goal.returns
-returns g c =
-    rw (← c.total-total.ensures, ← c.detected.ensures)
+returns g c = rw (← c.total-total.ensures, ← c.detected.ensures)
     (takes_more _ _ _ _ _ c.in_ok-put_points.ensures c.in_ok-put_coverage.ensures)

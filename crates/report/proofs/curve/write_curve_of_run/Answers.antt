@@ -1,9 +1,7 @@
-use Rattle.std.proofs.Common.{◌≡◌, ◌∙◌, ap, length, sym}
-use Rattle.std.proofs.lemmas.Result.{err_from_is_err_and}
+use Rattle.std.proofs.{Common.{◌≡◌, ◌∙◌, ap, length, sym}, lemmas.Result.err_from_is_err_and}
 use Rattle.fault_model.specs.Fault.{FaultList}
 use Rattle.region_runs.specs.RunJobs.{RunView}
-use Rattle.report.specs.Curve.{curve, curve_text}
-use Rattle.report.proofs.VerdictsOfRuns.{verdicts_counted}
+use Rattle.report.{specs.Curve.{curve, curve_text}, proofs.VerdictsOfRuns.verdicts_counted}
 use Rattle.report.proofs.curve.write_curve_of_run.Goals as goal
 
 pub returns-in_err-write_curve-clause-written : goal.returns-in_err-write_curve-clause-written
@@ -17,11 +15,7 @@ returns-in_err-write_curve-clause-written g c =
     c.deref.ensures.value ∙ (c.in_ok-points.ensures ∙ ap (λ n. curve n firsts) count) in
     rw (p.1, p.2) (
       curve_text c.deref.result.now firsts,
-      (
-        firsts,
-        c.in_ok-verdicts.ensures.firsts,
-        ap (λ ps. curve_text ps firsts) same,
-      ),
+      (firsts, c.in_ok-verdicts.ensures.firsts, ap (λ ps. curve_text ps firsts) same),
       c.in_err-write_curve.ensures,
     )
 
@@ -33,17 +27,12 @@ returns-clause-written g c =
     let same : c.deref.result.now ≡ curve (length c.args.run.now.whole.tests.tests) firsts =
     c.deref.ensures.value ∙ (c.in_ok-points.ensures ∙ ap (λ n. curve n firsts) count) in (
       curve_text c.deref.result.now firsts,
-      (
-        firsts,
-        c.in_ok-verdicts.ensures.firsts,
-        ap (λ ps. curve_text ps firsts) same,
-      ),
+      (firsts, c.in_ok-verdicts.ensures.firsts, ap (λ ps. curve_text ps firsts) same),
       c.in_ok-write_curve.ensures,
     )
 
 pub write_curve-requires : goal.write_curve-requires
 write_curve-requires g c =
     verdicts_counted c.args.run.now.whole c.in_ok-verdicts.verdicts.firsts c.requires.job
-    c.in_ok-verdicts.ensures.firsts
-    ∙ sym (ap (λ (l : FaultList). length l.list) c.job.ensures.list
+    c.in_ok-verdicts.ensures.firsts ∙ sym (ap (λ (l : FaultList). length l.list) c.job.ensures.list
     ∙ ap (λ (r : RunView). length r.whole.list.list) c.in_ok-verdicts.ensures.kept)

@@ -1,5 +1,4 @@
-use Rattle.std.proofs.Common.{length}
-use Rattle.std.proofs.lemmas.Result.{err_from_is_err_and}
+use Rattle.std.proofs.{Common.length, lemmas.Result.err_from_is_err_and}
 use Rattle.workers.specs.Verdict.{detected_count}
 use Rattle.byte_output.proofs.Public.{writes_then, stopped_before}
 use Rattle.report.specs.Report.{coverage_line}
@@ -12,8 +11,7 @@ returns-in_err-put_firsts_in_threads g c =
       c.circuit-circuit.ensures.part,
       c.faults-list.ensures.part,
     ) at c.in_err-put_firsts_in_threads.ensures in
-    rw (p.1)
-    (stopped_before _ (coverage_line (detected_count c.args.verdicts.now.firsts)
+    rw (p.1) (stopped_before _ (coverage_line (detected_count c.args.verdicts.now.firsts)
     (length c.args.verdicts.now.firsts)) _ _ wrote)
 
 pub returns : goal.returns

@@ -1,5 +1,4 @@
-use Rattle.std.proofs.Common.{sym, ap, ◌∙◌, []}
-use Rattle.std.specs.Prelude.{unwrap_or}
+use Rattle.std.{proofs.Common.{sym, ap, ◌∙◌, []}, specs.Prelude.unwrap_or}
 use Rattle.bench_net.specs.Scan.{cells, signal, name_of}
 use Rattle.report.proofs.CellNames.{cell_at, cell_signal}
 use Rattle.report.proofs.report.cell_name.Goals as goal

@@ -1,6 +1,5 @@
 use Rattle.std.proofs.Common.{◌∙◌, sym, arith}
-use Rattle.report.specs.Report.{first_at}
-use Rattle.report.proofs.ClassFirsts.{counted_class, uncounted_class}
+use Rattle.report.{specs.Report.first_at, proofs.ClassFirsts.{counted_class, uncounted_class}}
 use Rattle.report.proofs.report.detected_classes.Goals.{then-is_detected, else-is_detected}
 use Rattle.report.proofs.report.detected_classes.Goals as goal
 

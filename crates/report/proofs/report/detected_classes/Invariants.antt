@@ -1,5 +1,4 @@
-use Rattle.std.proofs.Common.{◌≡◌, ◌≤◌, take}
-use Rattle.std.specs.Prelude.{count_by, is_some}
+use Rattle.std.{proofs.Common.{◌≡◌, ◌≤◌, take}, specs.Prelude.{count_by, is_some}}
 use Rattle.report.specs.Report.{class_firsts}
 use Rattle.report.proofs.report.detected_classes.Given as goal
 

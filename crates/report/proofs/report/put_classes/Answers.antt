@@ -1,7 +1,5 @@
-use Rattle.std.proofs.Common.{◌<◌, ◌≤◌, length, arith}
-use Rattle.std.proofs.lemmas.Result.{err_from_is_err_and}
-use Rattle.report.specs.Report.{class_line}
-use Rattle.report.proofs.TextPieces.{is_class_line}
+use Rattle.std.proofs.{Common.{◌<◌, ◌≤◌, length, arith}, lemmas.Result.err_from_is_err_and}
+use Rattle.report.{specs.Report.class_line, proofs.TextPieces.is_class_line}
 use Rattle.threaded_lines.proofs.Public.{line_taken, line_stopped, lines_taken}
 use Rattle.report.proofs.report.put_classes.Goals as goal
 
@@ -26,5 +24,4 @@ pub returns : goal.returns
 returns g c =
     let le : length c.args.list.now.list ≤ c.loop-fault.fault = omega arith in
     (lines_taken (class_line c.args.circuit.now) c.args.list.now.list
-    c.args.classes.now.class_of c.loop-fault.fault _ _ c.requires.count le
-    c.loop-fault.invariant)
+    c.args.classes.now.class_of c.loop-fault.fault _ _ c.requires.count le c.loop-fault.invariant)

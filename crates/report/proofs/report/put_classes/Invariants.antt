@@ -1,6 +1,4 @@
-use Rattle.std.proofs.Common.{take}
-use Rattle.std.specs.Prelude.{zip}
-use Rattle.std.specs.List.{flat_map}
+use Rattle.std.{proofs.Common.take, specs.Prelude.zip, specs.List.flat_map}
 use Rattle.byte_output.specs.Output.{TakesAll}
 use Rattle.report.specs.Report.{class_line}
 use Rattle.report.proofs.report.put_classes.Given as goal

@@ -1,8 +1,7 @@
 use Rattle.std.proofs.Common.{◌++◌, [], ap, refl, sym, append_assoc}
 use Rattle.std.specs.Prelude.{codes, unwrap_or}
 use Rattle.byte_output.proofs.Public.{writes_same}
-use Rattle.report.proofs.LinesOfFaults.{line_known}
-use Rattle.report.proofs.TextPieces.{fault_pieces}
+use Rattle.report.proofs.{LinesOfFaults.line_known, TextPieces.fault_pieces}
 use Rattle.report.proofs.report.put_fault.Goals as goal
 
 pub name_of-name-requires : goal.name_of-name-requires
@@ -35,8 +34,7 @@ returns-in-Pin g c = λ f at.
     (codes "pin " ++ name ++ codes " " ++ place) c.defect-wrong.result.now _ c.requires.list at
     c.in-Pin.ensures c.stuck_of.ensures
     (rw (← c.name_of-name-in-Pin.ensures, c.format-place.ensures.text, c.from.ensures) refl)
-    (rw (c.model.ensures) at c.defect-wrong.ensures) (simp append_assoc))
-    c.put_words-in-Pin.ensures
+    (rw (c.model.ensures) at c.defect-wrong.ensures) (simp append_assoc)) c.put_words-in-Pin.ensures
 
 pub returns-in-Data : goal.returns-in-Data
 returns-in-Data g c = λ f at.
@@ -52,7 +50,6 @@ returns-in-Out g c = λ f at.
     writes_same _ _ _ _ _ (fault_pieces c.args.list.now.model c.args.circuit.now
     c.args.list.now.list c.args.fault f _ c.stuck_of.result
     (codes "out " ++ c.format-place-in-Out.result.now) c.defect-wrong.result.now _
-    c.requires.list at c.in-Out.ensures c.stuck_of.ensures
-    (ap (λ place. codes "out " ++ place)
+    c.requires.list at c.in-Out.ensures c.stuck_of.ensures (ap (λ place. codes "out " ++ place)
     (sym (rw (c.from-in-Out.ensures) at c.format-place-in-Out.ensures.text)))
     (rw (c.model.ensures) at c.defect-wrong.ensures) refl) c.put_words-in-Out.ensures

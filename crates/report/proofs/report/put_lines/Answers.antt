@@ -1,7 +1,6 @@
 use Rattle.std.proofs.Common.{◌<◌, ◌≤◌, length, arith, sym, ◌∙◌}
 use Rattle.std.proofs.lemmas.Result.{err_from_is_err_and}
-use Rattle.report.specs.Report.{wanted_line}
-use Rattle.report.proofs.TextPieces.{is_first_line, has_no_line}
+use Rattle.report.{specs.Report.wanted_line, proofs.TextPieces.{is_first_line, has_no_line}}
 use Rattle.threaded_lines.proofs.Public.{line_cut, line_left, line_put}
 use Rattle.report.proofs.report.put_lines.Goals as goal
 

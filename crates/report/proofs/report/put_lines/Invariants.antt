@@ -1,5 +1,4 @@
-use Rattle.std.specs.Prelude.{zip}
-use Rattle.std.specs.List.{flat_map, slice_range}
+use Rattle.std.specs.{Prelude.zip, List.{flat_map, slice_range}}
 use Rattle.byte_output.specs.Output.{TakesAll}
 use Rattle.report.specs.Report.{wanted_line}
 use Rattle.report.proofs.report.put_lines.Given as goal

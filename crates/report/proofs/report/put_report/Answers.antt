@@ -1,5 +1,4 @@
-use Rattle.std.proofs.Common.{length}
-use Rattle.std.proofs.lemmas.Result.{err_from_is_err_and}
+use Rattle.std.proofs.{Common.length, lemmas.Result.err_from_is_err_and}
 use Rattle.workers.specs.Verdict.{detected_count}
 use Rattle.byte_output.proofs.Public.{writes_then, stopped_before}
 use Rattle.report.specs.Report.{coverage_line}
@@ -9,8 +8,7 @@ pub returns-in_err-put_firsts : goal.returns-in_err-put_firsts
 returns-in_err-put_firsts g c =
     let p = err_from_is_err_and c.from_residual.result c.from_residual.ensures.1 in
     let wrote = rw (c.circuit.ensures.part, c.faults.ensures.part) at c.in_err-put_firsts.ensures in
-    rw (p.1)
-    (stopped_before _ (coverage_line (detected_count c.args.verdicts.now.firsts)
+    rw (p.1) (stopped_before _ (coverage_line (detected_count c.args.verdicts.now.firsts)
     (length c.args.verdicts.now.firsts)) _ _ wrote)
 
 pub returns : goal.returns

@@ -1,5 +1,4 @@
-use Rattle.std.proofs.Common.{◌++◌, append_assoc, sym}
-use Rattle.std.proofs.lemmas.Result.{err_from_is_err_and}
+use Rattle.std.proofs.{Common.{◌++◌, append_assoc, sym}, lemmas.Result.err_from_is_err_and}
 use Rattle.byte_output.proofs.Public.{stopped, stopped_before, writes_same, writes_then}
 use Rattle.report.proofs.report.put_words.Goals as goal
 

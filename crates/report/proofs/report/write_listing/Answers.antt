@@ -16,13 +16,11 @@ returns-in_err-put_counts g c =
       ← c.requires.list,
       ← c.count.ensures,
       ← c.count-2.ensures,
-    ) (stopped_after _ _ _ _ _ c.in_ok-put_classes.ensures
-    c.in_err-put_counts.ensures)
+    ) (stopped_after _ _ _ _ _ c.in_ok-put_classes.ensures c.in_err-put_counts.ensures)
 
 pub returns : goal.returns
 returns g c = rw (
   ← c.requires.list,
   ← c.count.ensures,
   ← c.count-2.ensures,
-) (takes_more _ _ _ _ _ c.in_ok-put_classes.ensures
-    c.in_ok-put_counts.ensures)
+) (takes_more _ _ _ _ _ c.in_ok-put_classes.ensures c.in_ok-put_counts.ensures)

@@ -41,8 +41,7 @@ returns-clause-refused g c =
     let moves = c.in_ok-moves.moves.items in
     refused_as (IsScheduleReportFault (piece_count job) moves c.args.workers)
     (IsScheduleTextFault c.args.model c.args.bench.now c.args.tests.now c.args.order.now
-    c.args.workers)
-    c.report_schedule.result
+    c.args.workers) c.report_schedule.result
     (moves_fault c.args.model c.args.bench.now c.args.tests.now c.args.order.now c.args.workers job
     moves (made, c.in_ok-job.ensures.few) c.in_ok-moves.ensures.moves)
     (rw (c.deref.ensures.value) at c.report_schedule.ensures.refused)

@@ -1,5 +1,4 @@
-use Rattle.std.proofs.Common.{◌∙◌, ap, length, sym}
-use Rattle.std.proofs.lemmas.Result.{err_from_is_err_and}
+use Rattle.std.proofs.{Common.{◌∙◌, ap, length, sym}, lemmas.Result.err_from_is_err_and}
 use Rattle.fault_model.specs.Fault.{FaultList}
 use Rattle.byte_output.specs.Output.{TakesAll, TakesFront}
 use Rattle.region_runs.specs.RunJobs.{RunView}
@@ -12,8 +11,7 @@ write_report_in_threads-requires g c =
     ∙ ap (λ (r : RunView). r.whole.list) c.in_ok-verdicts.ensures.kept in
     record {
       count = verdicts_counted c.args.run.now.whole c.in_ok-verdicts.verdicts.firsts c.requires.job
-          c.in_ok-verdicts.ensures.firsts
-          ∙ sym (ap (λ (l : FaultList). length l.list) list);
+          c.in_ok-verdicts.ensures.firsts ∙ sym (ap (λ (l : FaultList). length l.list) list);
     }
 
 pub returns-in_err-write_report_in_threads-clause-written :

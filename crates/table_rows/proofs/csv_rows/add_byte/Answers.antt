@@ -1,6 +1,5 @@
 use Rattle.std.proofs.Common.{refl}
-use Rattle.csv.specs.Writing.{default_writer}
-use Rattle.csv.proofs.WriteFacts.{escaped-double, escaped-other}
+use Rattle.csv.{specs.Writing.default_writer, proofs.WriteFacts.{escaped-double, escaped-other}}
 use Rattle.table_rows.proofs.csv_rows.add_byte.Goals as goal
 
 pub returns-then-byte-eq34 : goal.returns-then-byte-eq34

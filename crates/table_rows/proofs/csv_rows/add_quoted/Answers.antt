@@ -1,6 +1,5 @@
 use Rattle.std.proofs.Common.{◌∙◌, ◌++◌, ◌∷◌, [], ap, append_assoc, arith, get_or, take, take_all}
-use Rattle.csv.specs.Writing.{default_writer, escaped}
-use Rattle.csv.proofs.WriteFacts.{quoted-step}
+use Rattle.csv.{specs.Writing.{default_writer, escaped}, proofs.WriteFacts.quoted-step}
 use Rattle.table_rows.proofs.csv_rows.add_quoted.Goals as goal
 
 pub loop-byte-init : goal.loop-byte-init

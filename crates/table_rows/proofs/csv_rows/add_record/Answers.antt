@@ -1,12 +1,9 @@
 use Rattle.std.proofs.Common.{◌≡◌, ◌<◌, ◌∙◌, ◌++◌, ◌==◌, [], ap, arith, false, get_or, length, map}
-use Rattle.std.proofs.Common.{sym, take_all, true}
-use Rattle.std.proofs.lemmas.Bool.{eq-eqb, ne_eqb}
+use Rattle.std.proofs.{Common.{sym, take_all, true}, lemmas.Bool.{eq-eqb, ne_eqb}}
 use Rattle.std.proofs.lemmas.List.{get_or-map, length-map}
-use Rattle.csv.specs.Writing.{default_writer, row_body}
-use Rattle.csv.proofs.WriteFacts.{row-step}
+use Rattle.csv.{specs.Writing.{default_writer, row_body}, proofs.WriteFacts.row-step}
 use Rattle.table_rows.specs.declared.cell.Cell.TheVariants as cell
-use Rattle.table_rows.specs.Cells.{Empty, cell_in, csv_cell}
-use Rattle.table_rows.proofs.Texts.{added_in_turn}
+use Rattle.table_rows.{specs.Cells.{Empty, cell_in, csv_cell}, proofs.Texts.added_in_turn}
 use Rattle.table_rows.proofs.Records.{row_closed}
 use Rattle.table_rows.proofs.csv_rows.add_record.Goals as goal
 
@@ -34,8 +31,7 @@ returns-then-len-before c =
     let many = length-map (map cell_in c.args.cells.now) csv_cell in
     let all = take_all c.loop-place.place fields
     (omega (arith, some, many, c.loop-place-test.false)) in
-    let same : (length text.items == length c.args.text.now.items) ≡ true =
-    eq-eqb _ _ (omega (
+    let same : (length text.items == length c.args.text.now.items) ≡ true = eq-eqb _ _ (omega (
       arith,
       c.if-len-before.true,
       c.len.ensures,

@@ -1,7 +1,6 @@
 use Rattle.std.proofs.Common.{◌∙◌, ap, map, sym, take_all}
 use Rattle.csv.specs.Writing.{default_writer, row_text}
-use Rattle.table_rows.specs.Cells.{Words, csv_cell}
-use Rattle.table_rows.proofs.Texts.{mapped_twice}
+use Rattle.table_rows.{specs.Cells.{Words, csv_cell}, proofs.Texts.mapped_twice}
 use Rattle.table_rows.proofs.csv_rows.csv_header.Goals as goal
 
 pub returns : goal.returns

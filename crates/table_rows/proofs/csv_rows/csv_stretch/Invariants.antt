@@ -1,7 +1,6 @@
 use Rattle.std.proofs.Common.{◌≡◌}
 use Rattle.threaded_lines.specs.Texts.{text_between}
-use Rattle.table_rows.specs.declared.rows.Format.TheVariants.{Csv}
-use Rattle.table_rows.specs.Table.{row_texts}
+use Rattle.table_rows.specs.{declared.rows.Format.TheVariants.Csv, Table.row_texts}
 use Rattle.table_rows.proofs.csv_rows.csv_stretch.Given as goal
 
 -- the records of the rows so far were added

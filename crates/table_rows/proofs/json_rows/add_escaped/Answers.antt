@@ -1,6 +1,5 @@
 use Rattle.std.proofs.Common.{◌∙◌, ◌++◌, [], ◌∷◌, ap, append-nil}
-use Rattle.json.specs.Print.{print_from, quoted}
-use Rattle.json.specs.Token.{string}
+use Rattle.json.specs.{Print.{print_from, quoted}, Token.string}
 use Rattle.table_rows.proofs.json_rows.add_escaped.Goals as goal
 
 pub returns : goal.returns

@@ -1,13 +1,9 @@
-use Rattle.std.proofs.Common.{◌≡◌, ◌<◌, ◌≤◌, ◌∙◌, ◌++◌, ap, append_assoc}
-use Rattle.std.proofs.Common.{Global, Vec, arith, get_or, length, map, ℕ}
-use Rattle.std.proofs.Common.{[], sym, take, take_all}
-use Rattle.std.proofs.lemmas.List.{get_or-map, length-map}
-use Rattle.std.proofs.lemmas.Slice.Zip.{length-zip}
-use Rattle.std.specs.Prelude.{codes, zip}
-use Rattle.std.specs.List.{flat_map}
+use Rattle.std.proofs.Common.{◌≡◌, ◌<◌, ◌≤◌, ◌∙◌, ◌++◌, ap, append_assoc, Global, Vec, arith}
+use Rattle.std.proofs.Common.{get_or, length, map, ℕ, [], sym, take, take_all}
+use Rattle.std.proofs.lemmas.{List.{get_or-map, length-map}, Slice.Zip.length-zip}
+use Rattle.std.specs.{Prelude.{codes, zip}, List.flat_map}
 use Rattle.table_rows.specs.declared.cell.Cell.TheVariants as cell
-use Rattle.table_rows.specs.Cells.{Empty, cell_in, json_cell}
-use Rattle.table_rows.specs.Table.{member}
+use Rattle.table_rows.specs.{Cells.{Empty, cell_in, json_cell}, Table.member}
 use Rattle.table_rows.proofs.Texts.{member_added}
 use Rattle.table_rows.proofs.json_rows.add_members.Goals as goal
 

@@ -1,8 +1,6 @@
-use Rattle.std.proofs.Common.{◌≡◌, ◌++◌, map, take}
-use Rattle.std.specs.Prelude.{codes, zip}
+use Rattle.std.{proofs.Common.{◌≡◌, ◌++◌, map, take}, specs.Prelude.{codes, zip}}
 use Rattle.std.specs.List.{flat_map}
-use Rattle.table_rows.specs.Cells.{cell_in}
-use Rattle.table_rows.specs.Table.{member}
+use Rattle.table_rows.specs.{Cells.cell_in, Table.member}
 use Rattle.table_rows.proofs.json_rows.add_members.Given as goal
 
 -- the members so far were added

@@ -1,7 +1,6 @@
 use Rattle.std.proofs.Common.{◌≡◌}
 use Rattle.threaded_lines.specs.Texts.{text_between}
-use Rattle.table_rows.specs.declared.rows.Format.TheVariants.{Json}
-use Rattle.table_rows.specs.Table.{row_texts}
+use Rattle.table_rows.specs.{declared.rows.Format.TheVariants.Json, Table.row_texts}
 use Rattle.table_rows.proofs.json_rows.json_stretch.Given as goal
 
 -- the objects of the rows so far were added

@@ -1,11 +1,8 @@
-use Rattle.std.proofs.Common.{◌≡◌, ◌<◌, ◌∙◌, ◌++◌, ◌∷◌, [], ap}
-use Rattle.std.proofs.Common.{Global, Vec, arith, get_or, length, map, ℕ}
-use Rattle.std.proofs.Common.{sym, take, take_all}
+use Rattle.std.proofs.Common.{◌≡◌, ◌<◌, ◌∙◌, ◌++◌, ◌∷◌, [], ap, Global, Vec, arith, get_or, length}
+use Rattle.std.{proofs.Common.{map, ℕ, sym, take, take_all}, specs.List.enumerate_from}
 use Rattle.std.proofs.lemmas.List.{get_or-map, length-map, map-append, take_more}
 use Rattle.std.proofs.lemmas.List.FromFn.{get_or-enumerate_from, length-enumerate_from}
-use Rattle.std.specs.List.{enumerate_from}
-use Rattle.table_rows.specs.Table.{key}
-use Rattle.table_rows.proofs.Texts.{now_at}
+use Rattle.table_rows.{specs.Table.key, proofs.Texts.now_at}
 use Rattle.table_rows.proofs.json_rows.keys_of.Goals as goal
 
 pub loop-place-preserved : goal.loop-place-preserved

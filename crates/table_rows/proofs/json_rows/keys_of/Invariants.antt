@@ -1,5 +1,4 @@
-use Rattle.std.proofs.Common.{◌≡◌, map, take}
-use Rattle.std.specs.List.{enumerate_from}
+use Rattle.std.{proofs.Common.{◌≡◌, map, take}, specs.List.enumerate_from}
 use Rattle.table_rows.specs.Table.{key}
 use Rattle.table_rows.proofs.json_rows.keys_of.Given as goal
 

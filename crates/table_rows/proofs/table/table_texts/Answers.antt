@@ -1,6 +1,5 @@
 use Rattle.std.proofs.Common.{◌∙◌, ◌++◌, ◌∷◌, Global, Vec, [], ap, append-nil, arith, sym, ℕ}
-use Rattle.std.proofs.lemmas.List.Concat.{flat_map-append}
-use Rattle.std.specs.Prelude.{flat_map}
+use Rattle.std.{proofs.lemmas.List.Concat.flat_map-append, specs.Prelude.flat_map}
 use Rattle.threaded_lines.specs.Texts.{text_between}
 use Rattle.table_rows.specs.Table.{row_texts}
 use Rattle.table_rows.proofs.Stretches.{all_between, both_between, none_between, texts_counted}
@@ -22,7 +21,8 @@ loop-start-preserved g c =
     record {
       within = omega (arith, c.min.ensures);
       texts = ap (flat_map (λ (text : Vec ℕ Global). text.items)) c.in_ok-push.ensures.items
-          ∙ (flat_map-append (λ (text : Vec ℕ Global). text.items) c.loop-start.texts.items (own ∷ [])
+          ∙ (flat_map-append (λ (text : Vec ℕ Global). text.items) c.loop-start.texts.items
+          (own ∷ [])
           ∙ (ap (λ t. t ++ flat_map (λ (text : Vec ℕ Global). text.items) (own ∷ [])) was.texts
           ∙ (ap (λ t. text_between ts 0 start ++ t)
           (append-nil own.items ∙ c.in_ok-stretch_text.ensures)

@@ -1,5 +1,4 @@
-use Rattle.std.proofs.Common.{◌≡◌, ◌≤◌, ◌-◌}
-use Rattle.std.specs.Prelude.{flat_map}
+use Rattle.std.{proofs.Common.{◌≡◌, ◌≤◌, ◌-◌}, specs.Prelude.flat_map}
 use Rattle.threaded_lines.specs.Texts.{text_between}
 use Rattle.table_rows.specs.Table.{row_texts}
 use Rattle.table_rows.proofs.table.table_texts.Given as goal

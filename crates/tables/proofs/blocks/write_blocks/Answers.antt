@@ -2,12 +2,9 @@ use Rattle.std.proofs.Common.{◌≡◌, ◌∙◌, ◌++◌, ap, length, map, r
 use Rattle.block_coverage.specs.Blocks.{byte_of, cells_in}
 use Rattle.report.proofs.Public.{written_as}
 use Rattle.analysis_reports.specs.Blocks.{flagged}
-use Rattle.table_rows.specs.Cells.{cell_in}
-use Rattle.table_rows.specs.Table.{head_in, table_text}
-use Rattle.tables.specs.Lists.{IsBlockTable, block_head, block_row, circuit_rows}
-use Rattle.tables.specs.Tables.{coverage}
-use Rattle.tables.proofs.FurtherCells.{mapped_twice}
-use Rattle.tables.proofs.Heads.{sums_same, table_of, tables_same}
+use Rattle.table_rows.specs.{Cells.cell_in, Table.{head_in, table_text}}
+use Rattle.tables.specs.{Lists.{IsBlockTable, block_head, block_row, circuit_rows}, Tables.coverage}
+use Rattle.tables.proofs.{FurtherCells.mapped_twice, Heads.{sums_same, table_of, tables_same}}
 use Rattle.tables.proofs.blocks.write_blocks.Goals as goal
 
 pub returns-clause-written : goal.returns-clause-written
@@ -29,10 +26,8 @@ returns-clause-written g c =
     written_as (λ bytes. bytes ≡ table_text format (table_of (head_in c.run_heading.result)
     (map (λ block. block_row (cells_in block)) c.deref-2.result.now)))
     (IsBlockTable (byte_of c.args.separator) format c.args.circuit.now c.args.list.now.list flags)
-    c.write_rows.result _ _
-    (λ bytes is. (
+    c.write_rows.result _ _ (λ bytes is. (
       blocks,
       c.in_ok-blocks.ensures.rows,
       is ∙ ap (table_text format) (tables_same _ _ _ _ head rows),
-    ))
-    c.write_rows.ensures.written
+    )) c.write_rows.ensures.written

@@ -1,7 +1,5 @@
-use Rattle.std.proofs.Common.{◌≡◌, ◌∷◌, map, take}
-use Rattle.std.specs.Prelude.{codes}
-use Rattle.tables.specs.FurtherColumns.{further_in}
-use Rattle.tables.specs.Tables.{column_names}
+use Rattle.std.{proofs.Common.{◌≡◌, ◌∷◌, map, take}, specs.Prelude.codes}
+use Rattle.tables.specs.{FurtherColumns.further_in, Tables.column_names}
 use Rattle.tables.proofs.fault_rows.column_names.Given as goal
 
 -- the names so far

@@ -10,8 +10,7 @@ returns-clause-written g c =
     written_as (IsClassTableOfCircuit c.args.model circuit c.args.format)
     (IsClassTableOf c.args.model c.args.bench.now c.args.format) c.write_classes.result _ _
     (classes_of_text c.args.model c.args.bench.now circuit c.args.format
-    c.in_ok-circuit.ensures.accepted)
-    c.write_classes.ensures.written
+    c.in_ok-circuit.ensures.accepted) c.write_classes.ensures.written
 
 pub returns-clause-refused : goal.returns-clause-refused
 returns-clause-refused g c =

@@ -1,5 +1,4 @@
-use Rattle.std.proofs.Common.{◌≡◌, map, take}
-use Rattle.std.specs.Prelude.{is_some}
+use Rattle.std.{proofs.Common.{◌≡◌, map, take}, specs.Prelude.is_some}
 use Rattle.part_files.specs.Merging.{run_of}
 use Rattle.tables.proofs.merged.merged_flags.Given as goal
 

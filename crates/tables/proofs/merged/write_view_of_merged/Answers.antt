@@ -5,7 +5,6 @@ returns-in-Faults-clause-written g c = rw (c.in-Faults.is) c.write_merged_faults
 
 pub returns-in_ok-detected-in-Blocks-clause-written
     : goal.returns-in_ok-detected-in-Blocks-clause-written
-returns-in_ok-detected-in-Blocks-clause-written g c =
-    rw c.in-Blocks.is
+returns-in_ok-detected-in-Blocks-clause-written g c = rw c.in-Blocks.is
     (rw (c.deref.ensures.value, c.in_ok-detected-in-Blocks.ensures) at
     c.write_blocks.ensures.written)

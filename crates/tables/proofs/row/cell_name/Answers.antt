@@ -1,5 +1,4 @@
-use Rattle.std.proofs.Common.{◌≡◌, ◌∙◌, [], ap, sym}
-use Rattle.std.proofs.lemmas.Option.{slice_get-map}
+use Rattle.std.proofs.{Common.{◌≡◌, ◌∙◌, [], ap, sym}, lemmas.Option.slice_get-map}
 use Rattle.std.specs.Prelude.{Some, option_map, slice_get, map, unwrap_or}
 use Rattle.bench_net.specs.Scan.{cells, name_of, signal}
 use Rattle.tables.proofs.Nets.{q_named, signal_named, stored_at}

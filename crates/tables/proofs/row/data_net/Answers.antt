@@ -1,5 +1,4 @@
-use Rattle.std.proofs.Common.{◌≡◌, ◌∙◌, ap, sym}
-use Rattle.std.proofs.lemmas.Option.{slice_get_within}
+use Rattle.std.proofs.{Common.{◌≡◌, ◌∙◌, ap, sym}, lemmas.Option.slice_get_within}
 use Rattle.std.specs.Prelude.{unwrap_or}
 use Rattle.bench_net.specs.Scan.{cells, name_of, signal}
 use Rattle.tables.proofs.Nets.{data_at, signal_named, stored_at}

@@ -3,8 +3,7 @@ use Rattle.tables.proofs.Nets.{gate_within, is_gate_there, pin_reads_signal, sig
 use Rattle.tables.proofs.row.pin_net.Goals as goal
 
 pub gate_of-requires : goal.gate_of-requires
-gate_of-requires c =
-    gate_within c.args.circuit.now c.args.gate c.args.pin c.requires.0 c.requires.1
+gate_of-requires c = gate_within c.args.circuit.now c.args.gate c.args.pin c.requires.0 c.requires.1
 
 pub unreachable-requires : goal.unreachable-requires
 unreachable-requires c = is_gate_there c.args.circuit.now c.args.gate c.args.pin c.requires.0
@@ -27,5 +26,4 @@ returns c =
     let at = pin_reads_signal c.args.circuit.now c.args.gate c.args.pin c.requires.0
     c.in-Some.driver.now.kind c.in-Some.driver.now.pins.items c.requires.1 c.in-Some.ensures in
     let read = rw (c.deref.ensures, at.1) at c.name_of.ensures in
-    c.requires.1 ∙ sym (read
-    ∙ (signal_named c.args.circuit.now c.requires.0 c.requires.2).1)
+    c.requires.1 ∙ sym (read ∙ (signal_named c.args.circuit.now c.requires.0 c.requires.2).1)

@@ -1,7 +1,5 @@
-use Rattle.std.proofs.Common.{◌≡◌, refl, subst}
-use Rattle.std.specs.Prelude.{Contains}
-use Rattle.list_lemmas.proofs.Members.{contained}
-use Rattle.list_lemmas.proofs.Places.{at_place, within_place}
+use Rattle.std.{proofs.Common.{◌≡◌, refl, subst}, specs.Prelude.Contains}
+use Rattle.list_lemmas.proofs.{Members.contained, Places.{at_place, within_place}}
 use Rattle.fault_model.proofs.Public.{carries, listed_model}
 use Rattle.tables.proofs.row.row_of.Goals as goal
 

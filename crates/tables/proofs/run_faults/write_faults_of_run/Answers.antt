@@ -2,10 +2,9 @@ use Rattle.std.proofs.Common.{◌≡◌, ◌∙◌, ap, length, map, subst, sym}
 use Rattle.fault_model.specs.Fault.{FaultList}
 use Rattle.report.proofs.Public.{written_as}
 use Rattle.table_rows.specs.Table.{table_text}
-use Rattle.tables.specs.FurtherColumns.{HaveCells, further_in}
+use Rattle.tables.{specs.FurtherColumns.{HaveCells, further_in}, proofs.TablesOfTexts.firsts_table}
 use Rattle.tables.specs.Tables.{IsFirstTableOfJob, fault_table, first_values, values_in}
 use Rattle.tables.proofs.FurtherCells.{columns_found, columns_have}
-use Rattle.tables.proofs.TablesOfTexts.{firsts_table}
 use Rattle.tables.proofs.run_faults.write_faults_of_run.Goals as goal
 
 pub new-requires-clause-further : goal.new-requires-clause-further
@@ -51,5 +50,4 @@ returns-clause-written g c =
     (IsFirstTableOfJob job c.args.lines c.args.wanted format) c.write_rows_in_threads.result _ _
     (λ bytes is. firsts_table job firsts c.args.lines c.args.wanted further format
     c.requires.job.list c.in_ok-verdicts.ensures.firsts all bytes
-    (is ∙ ap (table_text format) made))
-    c.write_rows_in_threads.ensures.written
+    (is ∙ ap (table_text format) made)) c.write_rows_in_threads.ensures.written

@@ -1,12 +1,8 @@
-use Rattle.std.proofs.Common.{◌≡◌, ◌∙◌, ap, length, map, subst}
+use Rattle.std.{proofs.Common.{◌≡◌, ◌∙◌, ap, length, map, subst}, specs.Prelude.IfOk}
 use Rattle.std.specs.List.{enumerate_from, flat_map}
-use Rattle.std.specs.Prelude.{IfOk}
-use Rattle.analysis_reports.specs.Detected.{reached_count}
-use Rattle.analysis_reports.specs.Histogram.{histogram}
-use Rattle.table_rows.specs.Cells.{cell_in}
-use Rattle.table_rows.specs.Table.{head_in, table_text}
-use Rattle.tables.specs.Lists.{count_row, histogram_head}
-use Rattle.tables.specs.Tables.{coverage}
+use Rattle.analysis_reports.specs.{Detected.reached_count, Histogram.histogram}
+use Rattle.table_rows.specs.{Cells.cell_in, Table.{head_in, table_text}}
+use Rattle.tables.specs.{Lists.{count_row, histogram_head}, Tables.coverage}
 use Rattle.tables.proofs.Heads.{sums_same, table_of, tables_same}
 use Rattle.tables.proofs.run_lists.histogram_texts.Goals as goal
 

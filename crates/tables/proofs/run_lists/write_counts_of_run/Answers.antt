@@ -1,5 +1,4 @@
-use Rattle.std.proofs.Common.{ap, arith, length, refl}
-use Rattle.std.proofs.lemmas.Result.{err_from_is_err_and}
+use Rattle.std.proofs.{Common.{ap, arith, length, refl}, lemmas.Result.err_from_is_err_and}
 use Rattle.fault_model.specs.Fault.{FaultList}
 use Rattle.region_runs.specs.RunJobs.{RunView}
 use Rattle.tables.proofs.run_lists.write_counts_of_run.Goals as goal

@@ -1,13 +1,10 @@
 use Rattle.std.proofs.Common.{◌≡◌, ◌∙◌, ap, length, map, sym}
 use Rattle.fault_model.specs.Fault.{FaultList}
 use Rattle.report.proofs.Public.{written_as}
-use Rattle.analysis_reports.specs.Blocks.{flagged}
-use Rattle.analysis_reports.specs.BlockingReports.{pin_cells}
+use Rattle.analysis_reports.specs.{Blocks.flagged, BlockingReports.pin_cells}
 use Rattle.analysis_reports.proofs.Public.{pins_named}
-use Rattle.table_rows.specs.Cells.{cell_in}
-use Rattle.table_rows.specs.Table.{head_in, table_text}
-use Rattle.tables.specs.Lists.{IsBlockingTable, pin_head, pin_row}
-use Rattle.tables.specs.Tables.{coverage}
+use Rattle.table_rows.specs.{Cells.cell_in, Table.{head_in, table_text}}
+use Rattle.tables.specs.{Lists.{IsBlockingTable, pin_head, pin_row}, Tables.coverage}
 use Rattle.tables.proofs.Heads.{sums_same, table_of, tables_same}
 use Rattle.tables.proofs.run_lists.write_pins.Goals as goal
 
@@ -38,10 +35,8 @@ returns-clause-written g c =
     ∙ ap (λ k. map (λ pin. pin_row (pin_cells k pin)) pins) c.circuit-circuit.ensures.part in
     written_as (λ bytes. bytes ≡ table_text format (table_of (head_in c.run_heading.result)
     (map (λ pin. pin_row (pin_cells circuit pin)) c.deref-2.result.now)))
-    (IsBlockingTable format job flags) c.write_rows.result _ _
-    (λ bytes is. (
+    (IsBlockingTable format job flags) c.write_rows.result _ _ (λ bytes is. (
       pins,
       c.in_ok-pins.ensures,
       is ∙ ap (table_text format) (tables_same _ _ _ _ head rows),
-    ))
-    c.write_rows.ensures.written
+    )) c.write_rows.ensures.written

@@ -1,5 +1,4 @@
-use Rattle.std.proofs.Common.{◌≡◌, ◌∙◌, ap, map}
-use Rattle.std.specs.Prelude.{is_some}
+use Rattle.std.{proofs.Common.{◌≡◌, ◌∙◌, ap, map}, specs.Prelude.is_some}
 use Rattle.region_runs.specs.RunJobs.{RunView}
 use Rattle.report.proofs.Public.{written_as}
 use Rattle.analysis_reports.proofs.Public.{flags_detected}

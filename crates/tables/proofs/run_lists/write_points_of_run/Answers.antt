@@ -1,12 +1,9 @@
 use Rattle.std.proofs.Common.{◌≡◌, ◌∙◌, ap, length, map}
 use Rattle.region_runs.specs.RunJobs.{RunView}
-use Rattle.report.proofs.Public.{written_as}
-use Rattle.report.specs.Curve.{curve}
+use Rattle.report.{proofs.Public.written_as, specs.Curve.curve}
 use Rattle.workers.specs.Verdict.{detected_count}
-use Rattle.table_rows.specs.Cells.{cell_in}
-use Rattle.table_rows.specs.Table.{head_in, table_text}
-use Rattle.tables.specs.Lists.{IsCurveTableOfJob, curve_head, point_row}
-use Rattle.tables.specs.Tables.{coverage}
+use Rattle.table_rows.specs.{Cells.cell_in, Table.{head_in, table_text}}
+use Rattle.tables.specs.{Lists.{IsCurveTableOfJob, curve_head, point_row}, Tables.coverage}
 use Rattle.tables.proofs.Heads.{sums_same, table_of, tables_same}
 use Rattle.tables.proofs.run_lists.write_points_of_run.Goals as goal
 
@@ -27,15 +24,12 @@ returns-clause-written g c =
     let same : c.deref-2.result.now ≡ points =
     c.deref-2.ensures.value ∙ (c.in_ok-points.ensures ∙ ap (λ n. curve n firsts) count) in
     let rows : map (point_row c.total-faults.result) c.deref-2.result.now
-    ≡ map (point_row (length firsts)) points =
-    ap (map (point_row c.total-faults.result)) same
+    ≡ map (point_row (length firsts)) points = ap (map (point_row c.total-faults.result)) same
     ∙ ap (λ n. map (point_row n) points) c.total-faults.ensures in
     written_as (λ bytes. bytes ≡ table_text format (table_of (head_in c.run_heading.result)
     (map (point_row c.total-faults.result) c.deref-2.result.now)))
-    (IsCurveTableOfJob job format) c.write_rows.result _ _
-    (λ bytes is. (
+    (IsCurveTableOfJob job format) c.write_rows.result _ _ (λ bytes is. (
       firsts,
       c.in_ok-verdicts.ensures.firsts,
       is ∙ ap (table_text format) (tables_same _ _ _ _ head rows),
-    ))
-    c.write_rows.ensures.written
+    )) c.write_rows.ensures.written

@@ -16,8 +16,7 @@ returns-then-ends_front g c =
     c.loop.front.items c.read_until.new.buf.items _ c.loop.invariant c.in-Ok.ensures.bytes
     (split_at c.loop.front.items c.read_until.new.buf.items c.deref.result.now c.len-start.result
     (omega (arith, c.len-start.ensures, c.loop.front.ok)) c.deref.ensures.value
-    c.read_until.ensures.appends)
-    (c.ends_front.ensures.yes c.if-ends_front.true)
+    c.read_until.ensures.appends) (c.ends_front.ensures.yes c.if-ends_front.true)
 
 pub loop-preserved : goal.loop-preserved
 loop-preserved g c =
@@ -26,5 +25,4 @@ loop-preserved g c =
     c.loop.invariant c.in-Ok.ensures.bytes c.in-Ok.ensures.rest
     (split_at c.loop.front.items c.read_until.new.buf.items c.deref.result.now c.len-start.result
     (omega (arith, c.len-start.ensures, c.loop.front.ok)) c.deref.ensures.value
-    c.read_until.ensures.appends)
-    (c.ends_front.ensures.no c.if-ends_front.false)
+    c.read_until.ensures.appends) (c.ends_front.ensures.no c.if-ends_front.false)

@@ -22,8 +22,7 @@ pub loop-line-preserved : goal.loop-line-preserved
 loop-line-preserved c =
     given_more c.loop-line.yielded c.in-Some.line c.without_carriage_return-bytes.result.now
     c.loop-line.number c.loop-line.invariant.0 c.without_carriage_return-bytes.ensures
-    c.loop-line.invariant.1
-    (sym c.has_more_than_blanks.ensures ∙ c.if-has_more_than_blanks.false)
+    c.loop-line.invariant.1 (sym c.has_more_than_blanks.ensures ∙ c.if-has_more_than_blanks.false)
 
 pub returns : goal.returns
 returns c =

@@ -1,7 +1,5 @@
-use Rattle.std.proofs.Common.{◌≡◌, [], filter, length}
-use Rattle.std.specs.List.{enumerate_from}
-use Rattle.test_columns.specs.Columns.{is_written}
-use Rattle.test_columns.proofs.FirstLine.{given}
+use Rattle.std.{proofs.Common.{◌≡◌, [], filter, length}, specs.List.enumerate_from}
+use Rattle.test_columns.{specs.Columns.is_written, proofs.FirstLine.given}
 use Rattle.test_columns.proofs.line.first_line.Given as goal
 
 -- the lines so far are counted, and none has more than blanks

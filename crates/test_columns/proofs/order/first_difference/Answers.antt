@@ -1,5 +1,4 @@
-use Rattle.std.proofs.Common.{arith, map}
-use Rattle.std.proofs.lemmas.List.{length-map}
+use Rattle.std.proofs.{Common.{arith, map}, lemmas.List.length-map}
 use Rattle.bench_net.specs.Scan.{sources}
 use Rattle.test_columns.proofs.Named.{same_names}
 use Rattle.test_columns.proofs.order.first_difference.Goals as goal

@@ -1,16 +1,14 @@
-use Rattle.std.proofs.Common.{◌≡◌, ◌∙◌, ◌++◌, ◌<◌, ℕ, List, [], ◌∷◌, sym, ap, take, take_all}
-use Rattle.std.proofs.Common.{◌+◌, append_assoc, arith, length}
-use Rattle.std.specs.Prelude.{codes, slice_get, Some}
-use Rattle.bench_net.specs.Scan.{sources}
-use Rattle.bench_net.specs.Statement.{Statement}
-use Rattle.test_columns.specs.Columns.{columns, columns_line}
-use Rattle.text_lines.specs.Rows.{rows}
-use Rattle.test_columns.proofs.ReadBack.{columns_read, found_name, rows_read, source_names}
-use Rattle.test_columns.proofs.ReadBack.{spaced, spaced_more}
-use Rattle.test_columns.proofs.written.columns_line.Goals as goal
+use Rattle.std.proofs.Common.{◌≡◌, ◌∙◌, ◌++◌, ◌<◌, ℕ, List, [], ◌∷◌, sym, ap, take, take_all, ◌+◌}
+use Rattle.std.{proofs.Common.{append_assoc, arith, length}, specs.Prelude.{codes, slice_get, Some}}
+use Rattle.bench_net.specs.{Scan.sources, Statement.Statement}
+use Rattle.test_columns.{specs.Columns.{columns, columns_line}, proofs.ReadBack.spaced_more}
+use Rattle.test_columns.proofs.ReadBack.{columns_read, found_name, rows_read, source_names, spaced}
 use Rattle.test_columns.proofs.written.columns_line.Goals.{in_default}
-use Rattle.test_columns.proofs.written.columns_line.Goals.{}
-use Rattle.test_columns.proofs.written.columns_line.Goals.{in-Some+in_ok-push+in_ok-extend_from_slice-2}
+use Rattle.test_columns.proofs.written.columns_line.Goals.{
+  in-Some+in_ok-push+in_ok-extend_from_slice-2,
+}
+use Rattle.text_lines.specs.Rows.{rows}
+use Rattle.test_columns.proofs.written.columns_line.Goals as goal
 
 pub loop-place-preserved : goal.loop-place-preserved
 loop-place-preserved c = elim c.match-source_at.branch [
@@ -55,5 +53,4 @@ returns-clause-named c = λ bench rest accepted.
 pub returns-clause-rows : goal.returns-clause-rows
 returns-clause-rows c = λ bench rest accepted.
     ap (λ line. rows (line ++ rest)) (returns-clause-line c)
-    ∙ rows_read (sources c.args.circuit.now) rest
-    (source_names bench c.args.circuit.now accepted)
+    ∙ rows_read (sources c.args.circuit.now) rest (source_names bench c.args.circuit.now accepted)

@@ -1,5 +1,4 @@
-use Rattle.std.proofs.Common.{◌≡◌, ◌++◌, take}
-use Rattle.std.specs.Prelude.{codes}
+use Rattle.std.{proofs.Common.{◌≡◌, ◌++◌, take}, specs.Prelude.codes}
 use Rattle.bench_net.specs.Scan.{sources}
 use Rattle.test_columns.proofs.ReadBack.{spaced}
 use Rattle.test_columns.proofs.written.columns_line.Given as goal

@@ -1,11 +1,7 @@
-use Rattle.std.proofs.Common.{rules, ◌≡◌, ◌+◌, ◌≤◌, length, subst, sym, take, take_all}
-use Rattle.std.proofs.Common.{arith}
-use Rattle.patterns.specs.LaterRows.{with_tests}
-use Rattle.patterns.specs.Tests.{HasTests, max_tests}
-use Rattle.test_threads.specs.Stretches.{AreTestsBetween}
-use Rattle.test_threads.specs.Pieces.{AreRowsOf}
-use Rattle.test_threads.proofs.CutTests.{HasTests-cut}
-use Rattle.test_threads.proofs.SharedFile.{AreRowsOf-more}
+use Rattle.std.proofs.Common.{rules, ◌≡◌, ◌+◌, ◌≤◌, length, subst, sym, take, take_all, arith}
+use Rattle.patterns.specs.{LaterRows.with_tests, Tests.{HasTests, max_tests}}
+use Rattle.test_threads.specs.{Stretches.AreTestsBetween, Pieces.AreRowsOf}
+use Rattle.test_threads.proofs.{CutTests.HasTests-cut, SharedFile.AreRowsOf-more}
 use Rattle.test_threads.proofs.in_pieces.join_pieces.Goals as goal
 
 pub loop-piece-preserved : goal.loop-piece-preserved

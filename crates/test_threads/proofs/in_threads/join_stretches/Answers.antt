@@ -1,14 +1,12 @@
 use Rattle.std.proofs.Common.{◌≡◌, ◌+◌, ◌<◌, ◌≤◌, ◌⊎◌, ◌∙◌, ap, arith, get_or, length, rules, subst}
-use Rattle.std.proofs.Common.{suc, sym, take}
-use Rattle.std.specs.Vec.Iter.{into_iter_items, into_iter_len}
+use Rattle.std.{proofs.Common.{suc, sym, take}, specs.Vec.Iter.{into_iter_items, into_iter_len}}
 use Rattle.std.proofs.lemmas.Result.{IfErr-weaker, IfOk-weaker}
 use Rattle.patterns.specs.declared.TestFault.TheVariants as fault
 use Rattle.text_lines.specs.Reading.{rows_left}
 use Rattle.patterns.specs.LaterRows.{HasTestsAfter, IsRefusalAfter}
-use Rattle.test_threads.specs.Stretches.{AreTestsBetween, HasStretch}
 use Rattle.patterns.specs.Tests.{HasTests, IsTestList, IsTestRefusal, max_tests}
-use Rattle.patterns.proofs.Public.{has_tests_list}
-use Rattle.patterns.proofs.Public.{HasTests-behind, refused-behind}
+use Rattle.patterns.proofs.Public.{has_tests_list, HasTests-behind, refused-behind}
+use Rattle.test_threads.specs.Stretches.{AreTestsBetween, HasStretch}
 use Rattle.test_threads.proofs.CutTests.{HasTests-cut}
 use Rattle.test_threads.proofs.in_threads.join_stretches.Goals as goal
 
@@ -92,9 +90,7 @@ returns-clause-tests c =
     let left = rows_left c.from_place-rows.result in
     IfOk-weaker c.read_rows.result (HasTestsAfter before left) (HasTests text width)
     (HasTests-behind text (take c.loop-part.place text) width before left
-    c.loop-part.invariant.tests
-    c.from_place-rows.ensures)
-    c.read_rows.ensures.tests
+    c.loop-part.invariant.tests c.from_place-rows.ensures) c.read_rows.ensures.tests
 
 pub returns-clause-list : goal.returns-clause-list
 returns-clause-list c =
@@ -105,8 +101,7 @@ returns-clause-list c =
     IfOk-weaker c.read_rows.result (HasTestsAfter before left) IsTestList
     (λ t behind. has_tests_list text width t
     (HasTests-behind text (take c.loop-part.place text) width before left
-    c.loop-part.invariant.tests c.from_place-rows.ensures t behind))
-    c.read_rows.ensures.tests
+    c.loop-part.invariant.tests c.from_place-rows.ensures t behind)) c.read_rows.ensures.tests
 
 pub returns-clause-refused : goal.returns-clause-refused
 returns-clause-refused c =
@@ -114,9 +109,7 @@ returns-clause-refused c =
     let width = c.args.width in
     let before = c.loop-part.all in
     let left = rows_left c.from_place-rows.result in
-    IfErr-weaker c.read_rows.result
-    (λ f. (f ≡ fault.Memory) ⊎ IsRefusalAfter before left f)
+    IfErr-weaker c.read_rows.result (λ f. (f ≡ fault.Memory) ⊎ IsRefusalAfter before left f)
     (λ f. (f ≡ fault.Memory) ⊎ IsTestRefusal text width f)
     (refused-behind text (take c.loop-part.place text) width before left
-    c.loop-part.invariant.tests c.from_place-rows.ensures)
-    c.read_rows.ensures.refused
+    c.loop-part.invariant.tests c.from_place-rows.ensures) c.read_rows.ensures.refused

@@ -1,6 +1,5 @@
 use Rattle.std.proofs.Common.{rules, ◌≡◌, ◌-◌, ◌≤◌, ◌++◌, ◌∙◌, ap, length, take, subst}
-use Rattle.std.proofs.Common.{append_assoc, Ok}
-use Rattle.std.specs.Io.{ReadsAtMost}
+use Rattle.std.{proofs.Common.{append_assoc, Ok}, specs.Io.ReadsAtMost}
 use Rattle.std.specs.Io.KnownBytes.{ReadConsumes}
 use Rattle.test_threads.proofs.Pieces.{Consumes-both, take-put_mid-more}
 use Rattle.test_threads.proofs.shared_file.fill.Goals as goal

@@ -1,9 +1,7 @@
 use Rattle.std.proofs.Common.{rules, ◌≡◌, ◌+◌, ◌-◌, ◌≤◌, ◌++◌, ◌∙◌, ap, arith, drop, length}
-use Rattle.std.proofs.Common.{length-drop, subst, sym, take, take_all}
-use Rattle.std.specs.List.{slice_range}
+use Rattle.std.{proofs.Common.{length-drop, subst, sym, take, take_all}, specs.List.slice_range}
 use Rattle.test_threads.specs.Pieces.{IsFilled, IsLineEnd, IsOpenAt}
-use Rattle.test_threads.proofs.SharedFile.{AreLines-cut, AreLines-last, IsOpenAt-more}
-use Rattle.test_threads.proofs.SharedFile.{nothing_left}
+use Rattle.test_threads.proofs.SharedFile.{AreLines-cut, AreLines-last, IsOpenAt-more, nothing_left}
 use Rattle.test_threads.proofs.shared_file.read_lines.Goals as goal
 
 pub returns-then-filled-buffer-clause-lines : goal.returns-then-filled-buffer-clause-lines
@@ -59,10 +57,8 @@ invariant_of-more g c = record {
       let full : length buffer ≤ filled = search rules in
       let holds : rest ++ is.added ≡ buffer =
       ap (λ l. l ++ is.added) (sym held) ∙ (sym is.holds ∙ take_all filled buffer full) in
-      let at : IsOpenAt text left buffer place =
-      subst (λ l. IsOpenAt text left l place) holds
-      (IsOpenAt-more text before left rest is.added place (c.args.open.known text known)
-      is.read) in
+      let at : IsOpenAt text left buffer place = subst (λ l. IsOpenAt text left l place) holds
+      (IsOpenAt-more text before left rest is.added place (c.args.open.known text known) is.read) in
       let cut : IsLineEnd buffer count = search rules in
       let end : c.in_ok-end-2.end ≡ place + count = search rules in
       let items : c.extend_from_slice.new.self.items ≡ slice_range buffer count filled =
@@ -92,8 +88,7 @@ returns-clause-lines g c = λ text known.
     let full : length buffer ≤ filled = search rules in
     let holds : rest ++ is.added ≡ buffer =
     ap (λ l. l ++ is.added) (sym held) ∙ (sym is.holds ∙ take_all filled buffer full) in
-    let at : IsOpenAt text left buffer place =
-    subst (λ l. IsOpenAt text left l place) holds
+    let at : IsOpenAt text left buffer place = subst (λ l. IsOpenAt text left l place) holds
     (IsOpenAt-more text before left rest is.added place (c.args.open.known text known) is.read) in
     let cut : IsLineEnd buffer count = search rules in
     let end : c.in_ok-end-2.end ≡ place + count = search rules in

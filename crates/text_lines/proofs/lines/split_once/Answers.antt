@@ -1,6 +1,5 @@
 use Rattle.std.proofs.Common.{ℕ, ◌+◌, ◌==◌, length, take, drop, sym, ap, ◌∙◌, arith, rules}
-use Rattle.std.proofs.Common.{take_all}
-use Rattle.std.proofs.lemmas.List.Sums.{position_or_len_is}
+use Rattle.std.proofs.{Common.take_all, lemmas.List.Sums.position_or_len_is}
 use Rattle.std.proofs.lemmas.List.{take_rest, drop_all}
 use Rattle.text_lines.proofs.lines.split_once.Goals as goal
 

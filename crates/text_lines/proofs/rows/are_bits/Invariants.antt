@@ -1,5 +1,4 @@
-use Rattle.std.proofs.Common.{◌≡◌, take}
-use Rattle.std.specs.List.{list_all}
+use Rattle.std.{proofs.Common.{◌≡◌, take}, specs.List.list_all}
 use Rattle.text_lines.specs.Rows.{is_bit}
 use Rattle.text_lines.proofs.rows.are_bits.Given as goal
 

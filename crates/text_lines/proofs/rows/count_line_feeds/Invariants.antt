@@ -1,5 +1,4 @@
-use Rattle.std.proofs.Common.{◌≡◌, ◌≤◌, take}
-use Rattle.std.specs.Prelude.{count_by}
+use Rattle.std.{proofs.Common.{◌≡◌, ◌≤◌, take}, specs.Prelude.count_by}
 use Rattle.text_lines.specs.Lines.{ends_line}
 use Rattle.text_lines.proofs.rows.count_line_feeds.Given as goal
 

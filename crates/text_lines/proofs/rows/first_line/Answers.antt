@@ -1,5 +1,4 @@
-use Rattle.std.proofs.Common.{◌+◌, ◌∙◌}
-use Rattle.std.proofs.lemmas.List.{take_rest}
+use Rattle.std.proofs.{Common.{◌+◌, ◌∙◌}, lemmas.List.take_rest}
 use Rattle.text_lines.proofs.BitRow.{first_held, after_held}
 use Rattle.text_lines.proofs.rows.first_line.Goals as goal
 

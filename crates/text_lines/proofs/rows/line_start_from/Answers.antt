@@ -1,5 +1,4 @@
-use Rattle.std.proofs.Common.{◌-◌, length, arith, rules, take, drop}
-use Rattle.std.proofs.lemmas.List.{take_rest}
+use Rattle.std.proofs.{Common.{◌-◌, length, arith, rules, take, drop}, lemmas.List.take_rest}
 use Rattle.text_lines.proofs.CutRows.{IsLineStartFrom-found, IsLineStartFrom-end}
 use Rattle.text_lines.proofs.rows.line_start_from.Goals as goal
 

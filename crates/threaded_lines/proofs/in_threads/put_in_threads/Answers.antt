@@ -1,5 +1,4 @@
-use Rattle.std.proofs.Common.{◌≡◌, arith, length}
-use Rattle.std.proofs.lemmas.Result.{err_from_is_err_and}
+use Rattle.std.proofs.{Common.{◌≡◌, arith, length}, lemmas.Result.err_from_is_err_and}
 use Rattle.threaded_lines.proofs.LinesOfStretches.{all_cut, all_put, stretch_put}
 use Rattle.threaded_lines.proofs.in_threads.put_in_threads.Goals as goal
 

@@ -31,8 +31,7 @@ returns-in_err-put_all g c =
     let some : 0 < into_iter_len c.loop-part.part-iterator = grind rules in
     let has : HasStretch ts c.in-Some.part =
     subst (HasStretch ts) (sym next) (was.left 0 c.in-Some.part some) in
-    let own : HasLines ts c.in-Ok.stretch =
-    subst (HasStretch ts) c.in-Ok.is has in
+    let own : HasLines ts c.in-Ok.stretch = subst (HasStretch ts) c.in-Ok.is has in
     let here : c.in-Ok.stretch.start ≡ c.loop-part.end = omega (arith, c.if-start-end.true) in
     rw (p.1) (text_cut (λ text. text) ts c.args.place c.loop-part.end
     c.in-Ok.stretch.start c.in-Ok.stretch.end (length ts) c.deref.result.now _ _ _ here
@@ -49,21 +48,16 @@ loop-part-preserved-after-start-end g c =
     let some : 0 < into_iter_len c.loop-part.part-iterator = grind rules in
     let has : HasStretch ts c.in-Some.part =
     subst (HasStretch ts) (sym next) (was.left 0 c.in-Some.part some) in
-    let own : HasLines ts c.in-Ok.stretch =
-    subst (HasStretch ts) c.in-Ok.is has in
+    let own : HasLines ts c.in-Ok.stretch = subst (HasStretch ts) c.in-Ok.is has in
     let put : HasPut ts c.args.place c.if-start-end.end (g.W.Out.seen c.args.out.now)
     (g.W.Out.seen c.if-start-end.out) =
     elim c.if-start-end.branch [
       | then-start-end+in_ok-put_all w ↦
-          let here : c.in-Ok.stretch.start ≡ c.loop-part.end = omega (
-            arith,
-            w.if-start-end.true,
-          ) in
+          let here : c.in-Ok.stretch.start ≡ c.loop-part.end = omega (arith, w.if-start-end.true) in
           subst (λ e. HasPut ts c.args.place e (g.W.Out.seen c.args.out.now)
           (g.W.Out.seen c.if-start-end.out)) (sym w.end-is)
           (subst (λ o. HasPut ts c.args.place c.in-Ok.stretch.end
-          (g.W.Out.seen c.args.out.now) (g.W.Out.seen o)) (sym w.out-is)
-          (record {
+          (g.W.Out.seen c.args.out.now) (g.W.Out.seen o)) (sym w.out-is) (record {
             order = omega (arith, here, was.low, own.order);
             within = own.within;
             taken = text_put (λ text. text) ts c.args.place c.loop-part.end
@@ -71,8 +65,7 @@ loop-part-preserved-after-start-end g c =
                 (w.deref.ensures.value ∙ own.text) was.low own.order was.taken
                 w.in_ok-put_all.ensures;
           }))
-      | else-start-end w ↦
-          subst (λ e. HasPut ts c.args.place e (g.W.Out.seen c.args.out.now)
+      | else-start-end w ↦ subst (λ e. HasPut ts c.args.place e (g.W.Out.seen c.args.out.now)
           (g.W.Out.seen c.if-start-end.out)) (sym w.end-is)
           (subst (λ o. HasPut ts c.args.place c.loop-part.end
           (g.W.Out.seen c.args.out.now) (g.W.Out.seen o)) (sym w.out-is)
@@ -97,21 +90,16 @@ loop-part-preserved g c =
     let some : 0 < into_iter_len c.loop-part.part-iterator = grind rules in
     let has : HasStretch ts c.in-Some.part =
     subst (HasStretch ts) (sym next) (was.left 0 c.in-Some.part some) in
-    let own : HasLines ts c.in-Ok.stretch =
-    subst (HasStretch ts) c.in-Ok.is has in
+    let own : HasLines ts c.in-Ok.stretch = subst (HasStretch ts) c.in-Ok.is has in
     let put : HasPut ts c.args.place c.if-start-end.end (g.W.Out.seen c.args.out.now)
     (g.W.Out.seen c.if-start-end.out) =
     elim c.if-start-end.branch [
       | then-start-end+in_ok-put_all w ↦
-          let here : c.in-Ok.stretch.start ≡ c.loop-part.end = omega (
-            arith,
-            w.if-start-end.true,
-          ) in
+          let here : c.in-Ok.stretch.start ≡ c.loop-part.end = omega (arith, w.if-start-end.true) in
           subst (λ e. HasPut ts c.args.place e (g.W.Out.seen c.args.out.now)
           (g.W.Out.seen c.if-start-end.out)) (sym w.end-is)
           (subst (λ o. HasPut ts c.args.place c.in-Ok.stretch.end
-          (g.W.Out.seen c.args.out.now) (g.W.Out.seen o)) (sym w.out-is)
-          (record {
+          (g.W.Out.seen c.args.out.now) (g.W.Out.seen o)) (sym w.out-is) (record {
             order = omega (arith, here, was.low, own.order);
             within = own.within;
             taken = text_put (λ text. text) ts c.args.place c.loop-part.end
@@ -119,8 +107,7 @@ loop-part-preserved g c =
                 (w.deref.ensures.value ∙ own.text) was.low own.order was.taken
                 w.in_ok-put_all.ensures;
           }))
-      | else-start-end w ↦
-          subst (λ e. HasPut ts c.args.place e (g.W.Out.seen c.args.out.now)
+      | else-start-end w ↦ subst (λ e. HasPut ts c.args.place e (g.W.Out.seen c.args.out.now)
           (g.W.Out.seen c.if-start-end.out)) (sym w.end-is)
           (subst (λ o. HasPut ts c.args.place c.loop-part.end
           (g.W.Out.seen c.args.out.now) (g.W.Out.seen o)) (sym w.out-is)

@@ -1,5 +1,4 @@
-use Rattle.std.proofs.Common.{◌≡◌, ◌≤◌, arith, length, subst}
-use Rattle.std.proofs.lemmas.Result.{err_from_is_err_and}
+use Rattle.std.proofs.{Common.{◌≡◌, ◌≤◌, arith, length, subst}, lemmas.Result.err_from_is_err_and}
 use Rattle.threaded_lines.proofs.LinesOfStretches.{stretch_cut}
 use Rattle.threaded_lines.proofs.in_threads.put_round.Goals as goal
 

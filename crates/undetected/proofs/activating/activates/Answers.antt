@@ -1,18 +1,14 @@
-use Rattle.std.proofs.Common.{◌≡◌, ◌<◌, ◌+◌, ◌*◌, ◌-◌, ◌^◌, ◌∙◌, ℕ, ap, arith, length, min}
-use Rattle.std.proofs.Common.{not, subst, sym}
-use Rattle.std.specs.Prelude.{[], bit_and, slice_index_or}
-use Rattle.std.specs.Bool.{Decides}
-use Rattle.std.proofs.lemmas.Bool.{false≢true, lt-ltb, ltb-true}
-use Rattle.std.proofs.lemmas.Nat.{and_le_l}
-use Rattle.std.proofs.lemmas.Option.{get_or_from_slice_get}
+use Rattle.std.proofs.Common.{◌≡◌, ◌<◌, ◌+◌, ◌*◌, ◌-◌, ◌^◌, ◌∙◌, ℕ, ap, arith, length, min, not}
+use Rattle.std.{proofs.Common.{subst, sym}, specs.Prelude.{[], bit_and, slice_index_or}}
+use Rattle.std.{specs.Bool.Decides, proofs.lemmas.Bool.{false≢true, lt-ltb, ltb-true}}
+use Rattle.std.proofs.lemmas.{Nat.and_le_l, Option.get_or_from_slice_get}
 use Rattle.fault_model.specs.declared.Line.TheVariants as line
 use Rattle.fault_model.specs.Detection.{HasBit, LooksBack}
 use Rattle.list_lemmas.proofs.Places.{place_within}
-use Rattle.undetected.specs.Activation.{ActivatesAt}
-use Rattle.flat_circuit.specs.Words.{lane}
-use Rattle.undetected.specs.Activated.{stem_fault}
+use Rattle.undetected.specs.{Activation.ActivatesAt, Activated.stem_fault}
 use Rattle.undetected.proofs.BitsBefore.{activating_lane, word_bit}
 use Rattle.undetected.proofs.WordLanes.{both_decide, lane_below, no_lane, some_lane}
+use Rattle.flat_circuit.specs.Words.{lane}
 use Rattle.undetected.proofs.activating.activates.Goals as goal
 
 pub returns-then-opposite-eq0 : goal.returns-then-opposite-eq0
@@ -52,8 +48,7 @@ returns c =
     c.size_of.ensures ∙ ap (λ t. min 64 (length t.tests - 64 * block)) c.tests.ensures.part in
     let f = stem_fault m s bit in
     let decides : (k : ℕ) → k < size
-    → Decides (lane lanes k) (ActivatesAt job.circuit job.tests.tests f (64 * block + k)) =
-    λ k lt.
+    → Decides (lane lanes k) (ActivatesAt job.circuit job.tests.tests f (64 * block + k)) = λ k lt.
     let few : k < 64 = omega (arith, lt, is) in
     let listed : 64 * block + k < length job.tests.tests = omega (arith, lt, is) in
     let own = c.lanes_with-opposite.ensures k few in
@@ -62,10 +57,8 @@ returns c =
     activating_lane job.circuit job.tests.tests f block k lanes listed
     (both_decide opposite launch k
     (HasBit job.circuit (slice_index_or job.tests.tests (64 * block + k) []) (line.Stem s)
-    (not bit))
-    (LooksBack job.circuit job.tests.tests m (line.Stem s) bit (64 * block + k))
-    (λ e. bits.0 (own.0 e), λ h. own.1 (bits.1 h))
-    (c.launch_lanes.ensures k few listed)) in
+    (not bit)) (LooksBack job.circuit job.tests.tests m (line.Stem s) bit (64 * block + k))
+    (λ e. bits.0 (own.0 e), λ h. own.1 (bits.1 h)) (c.launch_lanes.ensures k few listed)) in
     let within : lanes < 2 ^ 64 = omega (arith, and_le_l opposite launch) in (
       λ h. let p = some_lane (ActivatesAt job.circuit job.tests.tests f) block lanes size within
           decides (omega (arith, is)) (ltb-true _ _ h) in

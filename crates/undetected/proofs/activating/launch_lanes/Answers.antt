@@ -1,5 +1,4 @@
-use Rattle.std.proofs.Common.{◌+◌, ◌*◌, ◌∙◌, ap, sym, subst}
-use Rattle.std.specs.Prelude.{bit_and}
+use Rattle.std.{proofs.Common.{◌+◌, ◌*◌, ◌∙◌, ap, sym, subst}, specs.Prelude.bit_and}
 use Rattle.std.specs.Bool.{Decides}
 use Rattle.fault_model.specs.declared.Line.TheVariants as line
 use Rattle.fault_model.specs.Detection.{IsInitialized, IsSecondOfPair, LooksBack}
@@ -27,8 +26,7 @@ pub returns-in-TransitionPairs : goal.returns-in-TransitionPairs
 returns-in-TransitionPairs c = λ k lt listed.
     let job = c.args.job.now in
     let test = 64 * c.args.block + k in
-    subst
-    (λ m. Decides (lane (bit_and c.capture_lanes.result
+    subst (λ m. Decides (lane (bit_and c.capture_lanes.result
     c.initialized_lanes-in-TransitionPairs.result) k) (LooksBack job.circuit job.tests.tests m
     (line.Stem c.args.signal) c.args.bit test))
     (sym (sym (c.model.ensures ∙ ap (λ l. l.model) c.faults.ensures.part)

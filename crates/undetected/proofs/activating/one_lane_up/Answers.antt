@@ -1,5 +1,4 @@
-use Rattle.std.proofs.Common.{◌≡◌, ◌+◌, ◌*◌, ◌%◌, ◌/◌, suc, arith, subst}
-use Rattle.std.specs.Prelude.{bit_or}
+use Rattle.std.{proofs.Common.{◌≡◌, ◌+◌, ◌*◌, ◌%◌, ◌/◌, suc, arith, subst}, specs.Prelude.bit_or}
 use Rattle.flat_circuit.specs.Words.{lane}
 use Rattle.undetected.proofs.WordLanes.{before_first, before_later}
 use Rattle.undetected.proofs.activating.one_lane_up.Goals as goal

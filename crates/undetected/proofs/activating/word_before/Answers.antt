@@ -10,11 +10,9 @@ returns c = λ k t bit lt e.
     let s = c.args.signal in
     bits_before job.circuit job.tests.tests c.args.block k t s c.word.result c.if-block-eq0.last
     c.one_lane_up.result bit c.circuit-circuit.ensures.together.circuit.well_formed
-    c.requires.signal lt e
-    c.word.ensures
+    c.requires.signal lt e c.word.ensures
     (λ j few. let one : suc j ≡ j + 1 = omega arith in ap (lane c.one_lane_up.result) one
-    ∙ c.one_lane_up.ensures.later j few)
-    c.one_lane_up.ensures.first
+    ∙ c.one_lane_up.ensures.later j few) c.one_lane_up.ensures.first
     (λ b before. elim c.if-block-eq0.branch [
       | then-block-eq0 w ↦ absurd (omega (arith, before, w.if-block-eq0.true))
       | else-block-eq0 w ↦

@@ -1,5 +1,4 @@
-use Rattle.std.proofs.Common.{◌≡◌, List, false, length, true}
-use Rattle.std.specs.Prelude.{Bool}
+use Rattle.std.{proofs.Common.{◌≡◌, List, false, length, true}, specs.Prelude.Bool}
 use Rattle.bench_net.specs.Scan.{names}
 use Rattle.undetected.specs.Activated.{AreAddedBefore, end_at}
 use Rattle.undetected.proofs.activations.add_group.Given as goal

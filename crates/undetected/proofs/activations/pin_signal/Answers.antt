@@ -3,8 +3,7 @@ use Rattle.undetected.proofs.PinSignals.{signal_within}
 use Rattle.undetected.proofs.activations.pin_signal.Goals as goal
 
 pub gate_of-requires : goal.gate_of-requires
-gate_of-requires c =
-    gate_within c.args.circuit.now c.args.gate c.args.pin c.requires.0 c.requires.1
+gate_of-requires c = gate_within c.args.circuit.now c.args.gate c.args.pin c.requires.0 c.requires.1
 
 pub unreachable-requires : goal.unreachable-requires
 unreachable-requires c = is_gate_there c.args.circuit.now c.args.gate c.args.pin c.requires.0
@@ -22,10 +21,9 @@ returns-clause-carries c = λ n at.
     c.in-Some.driver.now.kind c.in-Some.driver.now.pins.items at c.in-Some.ensures).1
 
 pub returns-clause-within : goal.returns-clause-within
-returns-clause-within c =
-    rw (
-      c.deref.ensures,
-      (pin_reads_signal c.args.circuit.now c.args.gate c.args.pin
-          c.requires.0 c.in-Some.driver.now.kind c.in-Some.driver.now.pins.items c.requires.1
-          c.in-Some.ensures).1,
-    ) (signal_within c.args.circuit.now c.requires.0 c.requires.2)
+returns-clause-within c = rw (
+  c.deref.ensures,
+  (pin_reads_signal c.args.circuit.now c.args.gate c.args.pin
+      c.requires.0 c.in-Some.driver.now.kind c.in-Some.driver.now.pins.items c.requires.1
+      c.in-Some.ensures).1,
+) (signal_within c.args.circuit.now c.requires.0 c.requires.2)

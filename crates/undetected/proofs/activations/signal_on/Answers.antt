@@ -1,8 +1,6 @@
 use Rattle.std.proofs.Common.{◌∙◌, ap, sym}
-use Rattle.bench_net.specs.Scan.{names}
-use Rattle.bench_net.proofs.Public.{signal-name_of}
-use Rattle.list_lemmas.proofs.Members.{contained}
-use Rattle.list_lemmas.proofs.Places.{at_place, place_within}
+use Rattle.bench_net.{specs.Scan.names, proofs.Public.signal-name_of}
+use Rattle.list_lemmas.proofs.{Members.contained, Places.{at_place, place_within}}
 use Rattle.fault_model.specs.Detection.{name_on}
 use Rattle.undetected.proofs.ObservedSignals.{data_signal, output_signal}
 use Rattle.undetected.proofs.PinSignals.{signal_within}

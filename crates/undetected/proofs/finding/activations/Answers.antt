@@ -1,7 +1,6 @@
 use Rattle.std.proofs.Common.{◌*◌, ◌∙◌, false, length, true}
 use Rattle.patterns.specs.Tests.{blocks}
-use Rattle.undetected.specs.Activated.{AreActivationsBelow}
-use Rattle.undetected.proofs.AddedWindows.{all_below}
+use Rattle.undetected.{specs.Activated.AreActivationsBelow, proofs.AddedWindows.all_below}
 use Rattle.undetected.proofs.finding.activations.Goals as goal
 
 pub read_words-requires : goal.read_words-requires

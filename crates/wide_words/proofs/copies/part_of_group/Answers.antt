@@ -1,7 +1,5 @@
-use Rattle.std.proofs.Common.{◌≡◌, ◌+◌, ◌*◌, ◌∙◌, ◌%◌, ap, arith, inl, inr}
-use Rattle.std.proofs.lemmas.Bool.{cases_lt}
-use Rattle.wide_words.specs.Lanes.{lane}
-use Rattle.wide_words.specs.Wide.{number}
+use Rattle.std.proofs.{Common.{◌≡◌, ◌+◌, ◌*◌, ◌∙◌, ◌%◌, ap, arith, inl, inr}, lemmas.Bool.cases_lt}
+use Rattle.wide_words.specs.{Lanes.lane, Wide.number}
 use Rattle.wide_words.proofs.copies.part_of_group.Goals as goal
 
 pub returns-clause-own : goal.returns-clause-own
@@ -9,15 +7,13 @@ returns-clause-own c = λ k lt here. elim (cases_lt (k % 128) 64) [
   | inl few ↦
       let same : 0 + k % 128 ≡ k % 64 = omega (arith, few) in
       let place : 64 * (2 * c.args.slot) + k % 64 ≡ k = omega (arith, here, few) in
-      ap (lane c.joined.result) same
-      ∙ (c.joined.ensures.low (k % 64) (omega arith)
+      ap (lane c.joined.result) same ∙ (c.joined.ensures.low (k % 64) (omega arith)
       ∙ (c.to_parts-parts.ensures (2 * c.args.slot) (k % 64) (omega arith)
       ∙ ap (lane (number c.args.word)) place))
   | inr up ↦
       let same : 0 + k % 128 ≡ 64 + k % 64 = omega (arith, up) in
       let place : 64 * (2 * c.args.slot + 1) + k % 64 ≡ k = omega (arith, here, up) in
-      ap (lane c.joined.result) same
-      ∙ (c.joined.ensures.high (k % 64) (omega arith)
+      ap (lane c.joined.result) same ∙ (c.joined.ensures.high (k % 64) (omega arith)
       ∙ (c.to_parts-parts.ensures (2 * c.args.slot + 1) (k % 64) (omega arith)
       ∙ ap (lane (number c.args.word)) place))
 ]

@@ -1,6 +1,5 @@
 use Rattle.std.proofs.Common.{◌≡◌, ◌<◌, ◌+◌, ◌∙◌, ℕ}
-use Rattle.wide_words.specs.Lanes.{lane}
-use Rattle.wide_words.proofs.SlotParts.{each_of, four_lane}
+use Rattle.wide_words.{specs.Lanes.lane, proofs.SlotParts.{each_of, four_lane}}
 use Rattle.wide_words.proofs.copies.side_by_side.Goals as goal
 
 pub returns : goal.returns

@@ -1,6 +1,4 @@
-use Rattle.std.proofs.Common.{arith}
-use Rattle.std.proofs.Common.{◌∙◌, refl}
-use Rattle.std.specs.Prelude.{slice_index_or}
+use Rattle.std.{proofs.Common.{arith, ◌∙◌, refl}, specs.Prelude.slice_index_or}
 use Rattle.std.proofs.lemmas.List.{length-set}
 use Rattle.wide_words.proofs.Listed.{rest_less, none_left}
 use Rattle.wide_words.proofs.wide_overlay.erase.Goals as goal

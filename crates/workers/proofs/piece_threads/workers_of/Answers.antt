@@ -1,6 +1,5 @@
 use Rattle.std.proofs.Common.{◌∙◌, ◌++◌, ◌∷◌, [], sym, ap, append_assoc, map, subst, All}
-use Rattle.std.proofs.lemmas.List.{map-append}
-use Rattle.std.proofs.lemmas.List.Elements.{All-append, All-cons, All-nil}
+use Rattle.std.proofs.lemmas.List.{map-append, Elements.{All-append, All-cons, All-nil}}
 use Rattle.std.specs.Vec.Iter.{into_iter_items}
 use Rattle.block_sim.specs.Parts.{HasRoom}
 use Rattle.workers.specs.declared.piece_threads.Worker.{Worker}
@@ -20,8 +19,7 @@ loop-seat-preserved c =
           ∙ ap (λ l. l ++ c.in-Some.seat ∷ []) was.seats;
       fits = subst (All (λ (x : Worker). HasRoom x.workspace c.args.job.now)) (sym pushed)
           (All-append (λ (x : Worker). HasRoom x.workspace c.args.job.now) c.loop-seat.workers.items
-          (w ∷ []) was.fits
-          (All-cons (λ (x : Worker). HasRoom x.workspace c.args.job.now) w []
+          (w ∷ []) was.fits (All-cons (λ (x : Worker). HasRoom x.workspace c.args.job.now) w []
           c.in_ok-workspace.ensures.fits
           (All-nil (λ (x : Worker). HasRoom x.workspace c.args.job.now))));
     }

@@ -1,5 +1,4 @@
-use Rattle.std.proofs.Common.{◌≡◌, ◌++◌, map, All}
-use Rattle.std.specs.Vec.Iter.{into_iter_items}
+use Rattle.std.{proofs.Common.{◌≡◌, ◌++◌, map, All}, specs.Vec.Iter.into_iter_items}
 use Rattle.block_sim.specs.Parts.{HasRoom}
 use Rattle.workers.proofs.piece_threads.workers_of.Given as goal
 

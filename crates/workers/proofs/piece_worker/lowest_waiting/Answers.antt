@@ -1,7 +1,6 @@
 use Rattle.std.proofs.Common.{◌∙◌, sym}
 use Rattle.fault_ledger.proofs.Public.{sees_twice}
-use Rattle.workers.proofs.SeatCalls.{settled_sees, not_waiting}
-use Rattle.workers.proofs.SettledLedgers.{settled_more}
+use Rattle.workers.proofs.{SeatCalls.{settled_sees, not_waiting}, SettledLedgers.settled_more}
 use Rattle.workers.proofs.piece_worker.lowest_waiting.Goals as goal
 
 pub returns-in-Waiting-clause-sees : goal.returns-in-Waiting-clause-sees

@@ -1,13 +1,10 @@
 use Rattle.std.proofs.Common.{◌∙◌, ap, sym, subst, Ok, ◌<◌, ℕ, Option, arith, length}
 use Rattle.fault_model.specs.Collapse.{Collapsed}
-use Rattle.fault_ledger.specs.declared.Event.{Event}
-use Rattle.fault_ledger.specs.declared.Reply.TheVariants.{Claimed}
-use Rattle.fault_ledger.specs.Seats.{Makes, Place}
-use Rattle.fault_ledger.specs.History.{block_count}
+use Rattle.fault_ledger.specs.declared.{Event.Event, Reply.TheVariants.Claimed}
+use Rattle.fault_ledger.specs.{Seats.{Makes, Place}, History.block_count, Settled.IsSettledAt}
+use Rattle.fault_ledger.proofs.Public.{held_sees, sees_kept}
 use Rattle.workers.proofs.SeatCalls.{claimed, exhausted, fewer, given, stopped_holding, works_twice}
 use Rattle.workers.proofs.SeatCalls.{settled_works, sees_works}
-use Rattle.fault_ledger.proofs.Public.{held_sees, sees_kept}
-use Rattle.fault_ledger.specs.Settled.{IsSettledAt}
 use Rattle.workers.proofs.piece_worker.work.Goals as goal
 
 pub returns-then-not-pass-clause-works : goal.returns-then-not-pass-clause-works
@@ -57,12 +54,10 @@ returns-then-lowest-classes-clause-works g c =
     let j = c.args.job.now in
     let m = c.in-Ok-Piece.ensures.piece c.in-Ok-Piece.class c.in-Ok-Piece.block
     (ap Ok c.in-Ok-Piece.field-0-is) in
-    works_twice j c.args.seat.now c.finish_piece-reported.new.seat
-    c.lowest_waiting-lowest.new.seat
+    works_twice j c.args.seat.now c.finish_piece-reported.new.seat c.lowest_waiting-lowest.new.seat
     (works_twice j c.args.seat.now c.claim.new.seat c.finish_piece-reported.new.seat
     (works_twice j c.args.seat.now c.claims.seat c.claim.new.seat c.claims.invariant.works
-    (claimed j c.claims.seat c.claim.new.seat _ m.1))
-    c.finish_piece-reported.ensures.works)
+    (claimed j c.claims.seat c.claim.new.seat _ m.1)) c.finish_piece-reported.ensures.works)
     (sees_works j c.finish_piece-reported.new.seat c.lowest_waiting-lowest.new.seat _
     c.lowest_waiting-lowest.ensures.sees)
 
@@ -97,8 +92,7 @@ claims-smaller-else-lowest-classes g c =
     let n = subst (λ x. Makes c.claims.seat (Event.Claim c.claims.seat.worker)
     (Claimed x) c.claim.new.seat) c.in-Ok-Piece.field-0-is m.1 in
     fewer j c.claims.seat c.claim.new.seat c.lowest_waiting-lowest.new.seat c.args.ledger.now
-    c.in-Ok-Piece.class c.in-Ok-Piece.block
-    (c.claims.invariant.works.place ∙ c.requires.place) n
+    c.in-Ok-Piece.class c.in-Ok-Piece.block (c.claims.invariant.works.place ∙ c.requires.place) n
     (works_twice j c.claim.new.seat c.finish_piece-reported.new.seat
     c.lowest_waiting-lowest.new.seat c.finish_piece-reported.ensures.works
     (sees_works j c.finish_piece-reported.new.seat c.lowest_waiting-lowest.new.seat _

@@ -1,9 +1,7 @@
-use Rattle.std.proofs.Common.{◌≡◌, ◌-◌, ◌≤◌}
-use Rattle.std.specs.Prelude.{None}
+use Rattle.std.{proofs.Common.{◌≡◌, ◌-◌, ◌≤◌}, specs.Prelude.None}
 use Rattle.block_sim.specs.Parts.{HasRoom}
 use Rattle.fault_ledger.specs.History.{claims, held_by, piece_count}
-use Rattle.workers.specs.Settling.{AreSettled}
-use Rattle.workers.specs.Work.{Works}
+use Rattle.workers.specs.{Settling.AreSettled, Work.Works}
 use Rattle.workers.proofs.piece_worker.work.Given as goal
 
 abbrev pub invariant-claims : goal.invariant-claims

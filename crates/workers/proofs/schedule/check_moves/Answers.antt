@@ -1,7 +1,5 @@
-use Rattle.std.proofs.Common.{◌≡◌, ◌∙◌, refl, sym, rules, tests}
-use Rattle.std.specs.Prelude.{nat_le, position}
-use Rattle.std.proofs.lemmas.Iterator.{YieldsList-from_slice}
-use Rattle.std.proofs.lemmas.Iterator.Search.{position_from_yields_List}
+use Rattle.std.{proofs.Common.{◌≡◌, ◌∙◌, refl, sym, rules, tests}, specs.Prelude.{nat_le, position}}
+use Rattle.std.proofs.lemmas.Iterator.{YieldsList-from_slice, Search.position_from_yields_List}
 use Rattle.workers.proofs.schedule.check_moves.Goals as goal
 
 pub returns-in-Some-clause-refused : goal.returns-in-Some-clause-refused

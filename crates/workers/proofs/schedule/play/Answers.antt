@@ -1,14 +1,10 @@
 use Rattle.std.proofs.Common.{◌∙◌, ◌+◌, ◌++◌, ◌∷◌, [], ℕ, List, Some, sym, ap, subst, get_or, take}
-use Rattle.std.proofs.Common.{add-one, arith, refl, cond}
-use Rattle.std.specs.Option.{option_map_or}
-use Rattle.std.proofs.Math.Seq.{take-suc}
-use Rattle.std.proofs.lemmas.List.{take_all}
+use Rattle.std.{proofs.Common.{add-one, arith, refl, cond}, specs.Option.option_map_or}
+use Rattle.std.proofs.{Math.Seq.take-suc, lemmas.List.take_all}
 use Rattle.block_sim.proofs.Public.{true_table}
-use Rattle.fault_ledger.specs.declared.Event.{Event}
-use Rattle.fault_ledger.specs.History.{History}
-use Rattle.workers.specs.Schedule.{after_moves, drops}
+use Rattle.fault_ledger.specs.{declared.Event.Event, History.History}
+use Rattle.workers.{specs.Schedule.{after_moves, drops}, proofs.MoveLists.skipped_few}
 use Rattle.workers.proofs.MoveLists.{Done, done_more, done_same, done_none, stepped, not_drop}
-use Rattle.workers.proofs.MoveLists.{skipped_few}
 use Rattle.workers.proofs.schedule.play.Goals.{in-Some+in-Drop, in-Some+in_default-event}
 use Rattle.workers.proofs.schedule.play.Goals.{in_default}
 use Rattle.workers.proofs.schedule.play.Goals as goal
@@ -41,8 +37,7 @@ overflow_add-skipped c =
     c.step.new.ledger c.loop-worker.skipped c.loop-worker.changed at m.0 m.1
     (Event.Drop c.in-Drop.field-0) (c.loop-worker.skipped + 1) adds refl in
     let few = skipped_few job s (after_moves t.0 s h.0 (take k c.args.moves.now ++ w ∷ []))
-    (drops h.0)
-    (c.loop-worker.skipped + 1) c.requires.shape c.requires.few more.1 more.2 in
+    (drops h.0) (c.loop-worker.skipped + 1) c.requires.shape c.requires.few more.1 more.2 in
     omega (arith, few)
 
 pub loop-worker-preserved : goal.loop-worker-preserved
@@ -63,8 +58,7 @@ loop-worker-preserved c =
           c.step.result was.shape c.classes-parts.ensures.together c.requires.shape is
           (c.requires.workers k 0 c.loop-worker-test.true) at.1 at.0 c.step.ensures.moved in
           subst (λ (ys : List ℕ). Done t s h ys c.step.new.ledger c.match-step.skipped
-          c.match-step.changed) (sym next)
-          (elim c.match-step.branch [
+          c.match-step.changed) (sym next) (elim c.match-step.branch [
             | in-Some+in-Drop b ↦
                 let adds = m.2 ∙ ap (λ r. option_map_or (λ event. event ∷ g) r g) (b.in-Some.is
                 ∙ ap Some b.in-Drop.is) in
@@ -72,8 +66,7 @@ loop-worker-preserved c =
                 x) (sym b.changed-is)
                 (done_more t s h (take k xs) w c.loop-worker.ledger c.step.new.ledger
                 c.loop-worker.skipped c.loop-worker.changed at m.0 m.1
-                (Event.Drop b.in-Drop.field-0) c.match-step.skipped adds
-                b.skipped-is)
+                (Event.Drop b.in-Drop.field-0) c.match-step.skipped adds b.skipped-is)
             | in-Some+in_default-event b ↦
                 let adds = m.2 ∙ ap (λ r. option_map_or (λ event. event ∷ g) r g) b.in-Some.is in
                 let kept = not_drop b.in-Some.event b.in_default-event.not-Drop in

@@ -1,11 +1,7 @@
 use Rattle.std.proofs.Common.{◌≡◌, take}
 use Rattle.patterns.specs.Least.{Table}
-use Rattle.fault_ledger.specs.History.{History}
-use Rattle.fault_ledger.specs.Answer.{IsLegal}
-use Rattle.fault_ledger.specs.Face.{face}
-use Rattle.workers.specs.Schedule.{IsTableOf}
-use Rattle.workers.proofs.MoveLists.{Done}
-use Rattle.workers.specs.Swept.{IsSweptOf}
+use Rattle.fault_ledger.specs.{History.History, Answer.IsLegal, Face.face}
+use Rattle.workers.{specs.Schedule.IsTableOf, proofs.MoveLists.Done, specs.Swept.IsSweptOf}
 use Rattle.workers.proofs.schedule.play.Given as goal
 
 abbrev pub invariant-loop-worker : goal.invariant-loop-worker

@@ -1,27 +1,19 @@
 use Rattle.std.proofs.Common.{◌≡◌, ◌∙◌, ◌+◌, ◌*◌, ◌++◌, ℕ, List, Option, [], refl, sym, ap, subst}
-use Rattle.std.proofs.Common.{All, arith, ◌<◌}
-use Rattle.std.proofs.lemmas.Result.{err_from_is_err_and}
-use Rattle.block_sim.proofs.Public.{true_table}
-use Rattle.fault_ledger.specs.declared.Shape.{Shape}
-use Rattle.block_sim.specs.Parts.{Parts, piece_count as job_pieces}
-use Rattle.fault_ledger.specs.History.{History, piece_count}
-use Rattle.fault_ledger.specs.Answer.{IsLegal}
+use Rattle.std.proofs.{Common.{All, arith, ◌<◌}, lemmas.Result.err_from_is_err_and}
+use Rattle.block_sim.{proofs.Public.true_table, specs.Parts.{Parts, piece_count as job_pieces}}
+use Rattle.fault_ledger.specs.{declared.Shape.Shape, History.{History, piece_count}, Answer.IsLegal}
 use Rattle.fault_ledger.specs.Face.{Face, face}
-use Rattle.workers.specs.Refused.{IsScheduleFault}
-use Rattle.workers.specs.Schedule.{after_moves, turns, schedule_history}
+use Rattle.workers.specs.{Refused.IsScheduleFault, Schedule.{after_moves, turns, schedule_history}}
 use Rattle.workers.specs.Settling.{AreSettled, IsShapeOf, shape_for}
-use Rattle.workers.specs.Verdict.{AreFirsts, verdicts}
-use Rattle.workers.proofs.TrueOutcomes.{firsts_of}
+use Rattle.workers.{specs.Verdict.{AreFirsts, verdicts}, proofs.TrueOutcomes.firsts_of}
 use Rattle.workers.proofs.SettledLedgers.{settled_finished}
 use Rattle.workers.proofs.MoveLists.{played_on, scheduled, skipped_few, moved_true}
 use Rattle.workers.proofs.schedule.run_schedule.Goals as goal
 
 -- the verdicts by a ledger, under another name of its shape
 told : (job : Parts) (s : Shape) (h : History) (f : Face) (firsts : List (Option ℕ)) → IsLegal s h
-    → f ≡ face s h
-    → ((g : History) → IsLegal f.shape g → f ≡ face f.shape g
-    → firsts ≡ verdicts f.shape g job.classes.class_of)
-    → firsts ≡ verdicts s h job.classes.class_of
+    → f ≡ face s h → ((g : History) → IsLegal f.shape g → f ≡ face f.shape g
+    → firsts ≡ verdicts f.shape g job.classes.class_of) → firsts ≡ verdicts s h job.classes.class_of
 told job s h f firsts l e say =
     subst (λ (x : Shape). IsLegal x h → f ≡ face x h → firsts ≡ verdicts x h job.classes.class_of)
     (ap (λ (x : Face). x.shape) e) (say h) l e
@@ -35,8 +27,7 @@ take_turns-dropped-requires-clause-history c =
     let begins = c.in_ok-ledger.ensures.face in
     let a = played_on job t.0 s c.in_ok-ledger.ledger c.play-played.new.ledger [] c.args.moves.now
     c.play-played.result.skipped c.play-played.result.changed
-    (ap (λ (x : Face). x.shape) begins) t.1 tt
-    begins c.play-played.ensures.moved in
+    (ap (λ (x : Face). x.shape) begins) t.1 tt begins c.play-played.ensures.moved in
     subst (λ (x : Shape). (g : History) × IsLegal x g × (c.play-played.new.ledger ≡ face x g))
     (sym (ap (λ (x : Face). x.shape) a.0)) (after_moves t.0 s [] c.args.moves.now, a.1, a.0)
 

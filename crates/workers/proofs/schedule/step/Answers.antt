@@ -1,7 +1,6 @@
 use Rattle.std.proofs.Common.{◌∙◌, ap, subst}
 use Rattle.fault_ledger.specs.declared.Call.TheVariants as call
-use Rattle.fault_ledger.specs.declared.Reply.TheVariants.{Done}
-use Rattle.fault_ledger.specs.Face.{Face, face, Answers}
+use Rattle.fault_ledger.specs.{declared.Reply.TheVariants.Done, Face.{Face, face, Answers}}
 use Rattle.workers.proofs.ScheduleMoves.{told_range, reported_moves, report_event}
 use Rattle.workers.proofs.schedule.step.Goals as goal
 

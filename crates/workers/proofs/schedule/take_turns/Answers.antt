@@ -1,15 +1,12 @@
 use Rattle.std.proofs.Common.{◌≡◌, ◌∙◌, ◌<◌, ◌+◌, ℕ, Bool, List, All, refl, sym, ap, subst, arith}
+use Rattle.std.proofs.lemmas.Bool.{not-false, not-true}
 use Rattle.patterns.specs.Least.{below}
 use Rattle.block_sim.proofs.Public.{true_table}
-use Rattle.fault_ledger.specs.declared.Shape.{Shape}
-use Rattle.fault_ledger.specs.History.{History}
-use Rattle.fault_ledger.specs.Answer.{IsLegal}
-use Rattle.fault_ledger.specs.Face.{face}
+use Rattle.fault_ledger.specs.{declared.Shape.Shape, History.History, Answer.IsLegal, Face.face}
 use Rattle.workers.specs.Schedule.{after_moves, turns, drops}
 use Rattle.workers.proofs.MoveLists.{Done, played_on, turned_none, turned_more, turned_over}
 use Rattle.workers.proofs.MoveLists.{skipped_few, all_below, left_of, left_events}
 use Rattle.workers.proofs.schedule.take_turns.Goals as goal
-use Rattle.std.proofs.lemmas.Bool.{not-false, not-true}
 
 pub turns-init : goal.turns-init
 turns-init c = record {
@@ -51,8 +48,7 @@ overflow_add-skipped c =
     let g : History = after_moves t.0 s h.0 (turns s.workers x.turns_done) in
     let turn = played_on job t.0 s c.turns.ledger c.play-turn.new.ledger g c.args.everyone.now
     c.play-turn.result.skipped c.play-turn.result.changed c.turns.invariant.shape t.1 x.legal
-    x.shows
-    c.play-turn.ensures.moved in
+    x.shows c.play-turn.ensures.moved in
     let sum : drops (after_moves t.0 s g c.args.everyone.now) ≡ drops h.0
     + (c.turns.skipped + c.play-turn.result.skipped) = let a = turn.2 in let b = x.dropped in
     omega (arith, a, b) in
@@ -67,8 +63,7 @@ returns-then-not-turn-clause-moved c = λ t h is l e.
     let x = c.turns.invariant.turned t h is l e in
     let g : History = after_moves t s h (turns s.workers x.turns_done) in
     let turn = played_on job t s c.turns.ledger c.play-turn.new.ledger g c.args.everyone.now
-    c.play-turn.result.skipped c.play-turn.result.changed c.turns.invariant.shape is x.legal
-    x.shows
+    c.play-turn.result.skipped c.play-turn.result.changed c.turns.invariant.shape is x.legal x.shows
     c.play-turn.ensures.moved in
     turned_over t s h c.turns.ledger c.play-turn.new.ledger c.turns.skipped
     c.play-turn.result.skipped x c.requires.some
@@ -88,8 +83,7 @@ turns-preserved c = record {
       let g : History = after_moves t s h (turns s.workers x.turns_done) in
       let turn = played_on job t s c.turns.ledger c.play-turn.new.ledger g c.args.everyone.now
       c.play-turn.result.skipped c.play-turn.result.changed c.turns.invariant.shape is x.legal
-      x.shows
-      c.play-turn.ensures.moved in
+      x.shows c.play-turn.ensures.moved in
       turned_more t s h c.turns.ledger c.play-turn.new.ledger c.turns.skipped
       c.play-turn.result.skipped x
       (subst (λ (b : Bool). Done t s g (below s.workers) c.play-turn.new.ledger
@@ -109,8 +103,7 @@ turns-smaller c =
     let g : History = after_moves t.0 s h.0 (turns s.workers x.turns_done) in
     let turn = played_on job t.0 s c.turns.ledger c.play-turn.new.ledger g c.args.everyone.now
     c.play-turn.result.skipped c.play-turn.result.changed c.turns.invariant.shape t.1 x.legal
-    x.shows
-    c.play-turn.ensures.moved in
+    x.shows c.play-turn.ensures.moved in
     let longer = turn.3 (not-false c.play-turn.result.changed c.if-not-turn.false) in
     let before = left_events s g x.legal in
     let after = left_events s (after_moves t.0 s g c.args.everyone.now) turn.1 in

@@ -1,10 +1,7 @@
 use Rattle.std.proofs.Common.{◌≡◌}
 use Rattle.patterns.specs.Least.{Table}
-use Rattle.fault_ledger.specs.History.{History}
-use Rattle.fault_ledger.specs.Answer.{IsLegal}
-use Rattle.fault_ledger.specs.Face.{face}
-use Rattle.workers.specs.Schedule.{IsTableOf}
-use Rattle.workers.proofs.MoveLists.{Turned, left_of}
+use Rattle.fault_ledger.specs.{History.History, Answer.IsLegal, Face.face}
+use Rattle.workers.{specs.Schedule.IsTableOf, proofs.MoveLists.{Turned, left_of}}
 use Rattle.workers.specs.Swept.{IsSweptOf}
 use Rattle.workers.proofs.schedule.take_turns.Given as goal
 

@@ -1,11 +1,9 @@
 use Rattle.std.proofs.Common.{◌∙◌, ◌+◌, ◌++◌, ◌∷◌, [], ℕ, sym, ap, arith, map, take, length}
-use Rattle.std.proofs.Common.{add-one}
-use Rattle.std.proofs.lemmas.List.{take_all}
+use Rattle.std.proofs.{Common.add-one, lemmas.List.take_all}
 use Rattle.std.specs.Prelude.{slice_get, Option}
 use Rattle.fault_model.specs.Collapse.{Collapsed}
 use Rattle.fault_ledger.specs.Settled.{status}
-use Rattle.workers.specs.Verdict.{settled_at}
-use Rattle.workers.proofs.TrueOutcomes.{class_in, take_more}
+use Rattle.workers.{specs.Verdict.settled_at, proofs.TrueOutcomes.{class_in, take_more}}
 use Rattle.workers.proofs.verdicts.verdicts_of.Goals as goal
 
 pub status_of-requires : goal.status_of-requires

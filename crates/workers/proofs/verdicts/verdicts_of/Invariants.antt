@@ -1,7 +1,5 @@
 use Rattle.std.proofs.Common.{◌≡◌, map, take, vec_len}
-use Rattle.fault_ledger.specs.History.{History}
-use Rattle.fault_ledger.specs.Answer.{IsLegal}
-use Rattle.fault_ledger.specs.Settled.{status}
+use Rattle.fault_ledger.specs.{History.History, Answer.IsLegal, Settled.status}
 use Rattle.workers.specs.Verdict.{settled_at}
 use Rattle.workers.proofs.verdicts.verdicts_of.Given as goal
 

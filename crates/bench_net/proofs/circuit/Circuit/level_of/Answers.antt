@@ -1,7 +1,5 @@
-use Rattle.std.proofs.Common.{◌<◌, arith, sym, subst, length}
-use Rattle.std.proofs.lemmas.List.{get_or_read}
-use Rattle.bench_net.specs.Scan.{names}
-use Rattle.bench_net.specs.Level.{HasLevel}
+use Rattle.std.proofs.{Common.{◌<◌, arith, sym, subst, length}, lemmas.List.get_or_read}
+use Rattle.bench_net.specs.{Scan.names, Level.HasLevel}
 use Rattle.bench_net.proofs.circuit.Circuit.level_of.Goals as goal
 
 pub returns : goal.returns

@@ -1,10 +1,8 @@
-use Rattle.std.proofs.Common.{◌<◌, arith, sym, subst, length}
-use Rattle.std.specs.Prelude.{None}
+use Rattle.std.{proofs.Common.{◌<◌, arith, sym, subst, length}, specs.Prelude.None}
 use Rattle.std.proofs.lemmas.List.{get_or_read}
-use Rattle.bench_net.specs.Scan.{names}
-use Rattle.bench_net.specs.Inside.{IsPlace}
-use Rattle.bench_net.proofs.circuit.Circuit.source_of.Goals as goal
+use Rattle.bench_net.specs.{Scan.names, Inside.IsPlace}
 use Rattle.bench_net.proofs.circuit.Circuit.source_of.Goals.{After-index}
+use Rattle.bench_net.proofs.circuit.Circuit.source_of.Goals as goal
 
 place : (c : After-index) → IsPlace c.args.self.now c.args.signal c.index.result.now
 place c =

@@ -1,6 +1,5 @@
 use Rattle.std.proofs.Common.{arith, ap, length}
-use Rattle.bench_net.specs.Scan.{names, sources}
-use Rattle.bench_net.proofs.CircuitTables.{few_sources}
+use Rattle.bench_net.{specs.Scan.{names, sources}, proofs.CircuitTables.few_sources}
 use Rattle.bench_net.proofs.StuckSets.{some_source}
 use Rattle.bench_net.proofs.circuit.Circuit.sources.Goals as goal
 

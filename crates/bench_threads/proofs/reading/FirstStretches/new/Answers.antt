@@ -1,8 +1,7 @@
 use Rattle.std.proofs.Common.{[], rules, subst, sym}
 use Rattle.text_lines.specs.Lines.{lines}
 use Rattle.bench_net.specs.reader.Entries.{AreStated, entries_of}
-use Rattle.bench_threads.specs.Stretches.{joined}
-use Rattle.bench_threads.proofs.StretchLines.{stated_none}
+use Rattle.bench_threads.{specs.Stretches.joined, proofs.StretchLines.stated_none}
 use Rattle.bench_threads.proofs.reading.FirstStretches.new.Goals as goal
 
 pub returns-clause-first : goal.returns-clause-first

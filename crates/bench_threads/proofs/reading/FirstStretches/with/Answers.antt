@@ -1,12 +1,10 @@
 use Rattle.std.proofs.Common.{◌≡◌, ◌++◌, ◌∙◌, ap, arith, length, rules, subst, sym, take}
 use Rattle.std.proofs.lemmas.List.Elements.{All-push}
 use Rattle.text_lines.specs.Lines.{lines}
-use Rattle.bench_net.specs.reader.Entries.{AreFew, AreStated, entries_of, names_in}
-use Rattle.bench_net.specs.reader.Entries.{reads_in}
+use Rattle.bench_net.specs.reader.Entries.{AreFew, AreStated, entries_of, names_in, reads_in}
 use Rattle.bench_threads.specs.Stretches.{AreCounted, AreStatedBetween, HasStretch, IsCounted}
-use Rattle.bench_threads.specs.Stretches.{joined}
+use Rattle.bench_threads.{specs.Stretches.joined, proofs.StretchLines.stated_more}
 use Rattle.bench_threads.proofs.StretchLines.{joined_push, names_append, names_grown, reads_grown}
-use Rattle.bench_threads.proofs.StretchLines.{stated_more}
 use Rattle.bench_threads.proofs.reading.FirstStretches.with.Goals as goal
 
 pub returns-clause-first : goal.returns-clause-first
@@ -43,7 +41,6 @@ returns-clause-first c =
       names = c.in_ok-add_names.ensures.names
           ∙ ap (λ l. l ++ names_in c.as_slice.result.now) was.names
           ∙ ap (λ l. names_in (joined all) ++ names_in l) c.as_slice.ensures.value
-          ∙ sym (names_append (joined all) stated)
-          ∙ sym (ap names_in grown);
+          ∙ sym (names_append (joined all) stated) ∙ sym (ap names_in grown);
       once = c.in_ok-add_names.ensures.once;
     }

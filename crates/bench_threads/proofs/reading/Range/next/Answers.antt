@@ -1,5 +1,4 @@
-use Rattle.std.proofs.Common.{◌+◌, ◌∙◌, ap, arith, sym, take}
-use Rattle.std.specs.Prelude.{count_by}
+use Rattle.std.{proofs.Common.{◌+◌, ◌∙◌, ap, arith, sym, take}, specs.Prelude.count_by}
 use Rattle.text_lines.specs.Lines.{ends_line}
 use Rattle.bench_threads.proofs.StretchLines.{feeds_up_to}
 use Rattle.bench_threads.proofs.reading.Range.next.Goals as goal

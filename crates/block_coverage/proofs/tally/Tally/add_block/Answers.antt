@@ -1,29 +1,23 @@
 use Rattle.std.proofs.Common.{◌≡◌, ◌≤◌, ◌∙◌, ◌+◌, ◌++◌, ◌∷◌, [], ℕ, List, Bool, false, true, cond}
-use Rattle.std.proofs.Common.{sym, ap}
-use Rattle.std.proofs.Common.{subst, map, set, arith}
-use Rattle.std.specs.Prelude.{Some, bytes_eq, option_map, slice_get}
-use Rattle.std.specs.Borrow.{Bor}
-use Rattle.std.specs.List.{list_any}
-use Rattle.std.proofs.lemmas.Bool.{not-false, not-true}
-use Rattle.std.proofs.lemmas.List.{map-set, map_push}
+use Rattle.std.{proofs.Common.{sym, ap, subst, map, set, arith}, specs.Borrow.Bor}
+use Rattle.std.specs.{Prelude.{Some, bytes_eq, option_map, slice_get}, List.list_any}
+use Rattle.std.proofs.lemmas.{Bool.{not-false, not-true}, List.{map-set, map_push}}
 use Rattle.std.proofs.lemmas.Option.{get_or_from_slice_get, slice_get-map}
-use Rattle.bench_net.specs.Statement.{Name}
-use Rattle.bench_net.proofs.Public.{same_bytes}
+use Rattle.bench_net.{specs.Statement.Name, proofs.Public.same_bytes}
 use Rattle.block_coverage.specs.declared.rows.BlockRow.{BlockRow}
 use Rattle.block_coverage.specs.Blocks.{BlockCells, block_cells, cells_in}
 use Rattle.block_coverage.specs.Tallies.{AreListed, IsTally, names_at}
 use Rattle.block_coverage.proofs.ListedBlocks.{listed_again, listed_are, listed_from, listed_new}
 use Rattle.block_coverage.proofs.Tallies.{few_before, is_there, isnt_there, key_in, made, row_at}
 use Rattle.block_coverage.proofs.Tallies.{rows_again, rows_new}
-use Rattle.block_coverage.proofs.tally.Tally.add_block.Goals as goal
 use Rattle.block_coverage.proofs.tally.Tally.add_block.Goals.{After-index_mut-row}
+use Rattle.block_coverage.proofs.tally.Tally.add_block.Goals as goal
 
 -- the block stands at its place among the keys
 key_at : (keys new : List (Bor Name)) (k key : Bor Name) (i : ℕ) (t : Bool) → t ≡ true
     → new ≡ cond t keys (keys ++ k ∷ []) → slice_get new i ≡ Some key
     → bytes_eq k.now key.now ≡ true → slice_get (names_at keys) i ≡ Some k.now
-key_at keys new k key i t on is at same =
-    slice_get-map (λ b. b.now) keys i
+key_at keys new k key i t on is at same = slice_get-map (λ b. b.now) keys i
     ∙ (ap (option_map (λ b. b.now)) (ap (λ l. slice_get l i)
     (sym (is ∙ ap (λ u. cond u keys (keys ++ k ∷ [])) on)) ∙ at)
     ∙ ap Some (sym (same_bytes k.now key.now same)))
@@ -35,8 +29,7 @@ bit false = omega arith
 -- the row at the place of a block that is there
 there : (c : After-index_mut-row) → (s : ℕ) (names : List Name) (flags : List Bool)
     → IsTally s (names ++ c.args.block.now ∷ []) (flags ++ c.args.detected ∷ []) c.args.self.now
-    → (slice_get (names_at c.args.self.now.names.keys) c.in_ok-place.place
-    ≡ Some c.args.block.now)
+    → (slice_get (names_at c.args.self.now.names.keys) c.in_ok-place.place ≡ Some c.args.block.now)
     × (cells_in c.index_mut-row.result.now ≡ block_cells s (names ++ c.args.block.now ∷ [])
     (flags ++ c.args.detected ∷ []) c.args.block.now)
 there c s names flags tally =
@@ -67,8 +60,7 @@ overflow_add-row c =
 pub overflow_add-row-else-added : goal.overflow_add-row-else-added
 overflow_add-row-else-added c =
     let h = c.requires in
-    let row = there (goal.at.overflow_add-row-else-added c).After-index_mut-row
-    h.0 h.1 h.2 h.5 in
+    let row = there (goal.at.overflow_add-row-else-added c).After-index_mut-row h.0 h.1 h.2 h.5 in
     let few = (few_before h.0 h.1 h.2 c.args.detected h.4 c.args.block.now).1 in
     let same = ap (λ (cells : BlockCells). cells.detected) row.1 in
     let room = h.3 in
@@ -135,8 +127,7 @@ returns-else-added c = λ s names flags even tally.
       listed = subst (λ bs. AreListed s (names ++ (p ++ s ∷ []) ∷ []) bs) (sym names_are)
           (listed_are s (names ++ (p ++ s ∷ []) ∷ []) blocks
           (listed_again s names blocks p listed (is_there blocks p on)));
-      rows = map-set cells_in rows place new
-          ∙ (ap (set (map cells_in rows) place) cells
+      rows = map-set cells_in rows place new ∙ (ap (set (map cells_in rows) place) cells
           ∙ (ap (λ l. set l place more) tally.rows
           ∙ (rows_again s names flags f even blocks p listed place row.0
           ∙ ap (map (block_cells s (names ++ (p ++ s ∷ []) ∷ []) (flags ++ f ∷ [])))

@@ -1,12 +1,9 @@
-use Rattle.std.proofs.Common.{◌≡◌, ◌<◌, ◌+◌, ◌-◌, ◌∙◌, ◌++◌, ◌∷◌, [], List, ℕ, sym, ap, subst}
-use Rattle.std.proofs.Common.{take, get_or, length, arith}
-use Rattle.std.proofs.lemmas.Bool.{ne_eqb}
-use Rattle.std.proofs.lemmas.List.{take_more}
-use Rattle.block_coverage.specs.Tallies.{IsTally}
-use Rattle.block_coverage.proofs.Tallies.{tally_next, tally_other}
-use Rattle.block_coverage.proofs.tally.Tally.add_name.Goals as goal
+use Rattle.std.proofs.Common.{◌≡◌, ◌<◌, ◌+◌, ◌-◌, ◌∙◌, ◌++◌, ◌∷◌, [], List, ℕ, sym, ap, subst, take}
+use Rattle.std.proofs.{Common.{get_or, length, arith}, lemmas.Bool.ne_eqb, lemmas.List.take_more}
+use Rattle.block_coverage.{specs.Tallies.IsTally, proofs.Tallies.{tally_next, tally_other}}
 use Rattle.block_coverage.proofs.tally.Tally.add_name.Goals.{then-byte-separator+in_ok-add_block}
 use Rattle.block_coverage.proofs.tally.Tally.add_name.Goals.{else-byte-separator}
+use Rattle.block_coverage.proofs.tally.Tally.add_name.Goals as goal
 
 pub loop-place-init : goal.loop-place-init
 loop-place-init c = λ names flags even tally.
@@ -24,8 +21,7 @@ loop-place-preserved c = λ names flags even tally.
     let lt : place < length name = subst (λ (l : List ℕ). place < length l) is test in
     let next = take_more name place 0 lt in
     elim c.if-byte-separator.branch [
-      | then-byte-separator+in_ok-add_block w ↦
-          (let none : place - 0 ≡ place = omega arith in
+      | then-byte-separator+in_ok-add_block w ↦ (let none : place - 0 ≡ place = omega arith in
           let front : w.range.result.now ≡ take place name =
           w.range.ensures.value ∙ ap (λ n. take n name) none in
           let byte : get_or name place 0 ≡ s =

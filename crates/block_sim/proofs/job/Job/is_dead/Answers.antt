@@ -1,10 +1,7 @@
-use Rattle.std.proofs.Common.{◌∙◌, ap, subst, sym}
-use Rattle.std.proofs.lemmas.Bool.{false≢true, not-true}
+use Rattle.std.proofs.{Common.{◌∙◌, ap, subst, sym}, lemmas.Bool.{false≢true, not-true}}
 use Rattle.fault_model.specs.Reordered.{place}
-use Rattle.flat_circuit.specs.Arranged.{IsArranged}
-use Rattle.flat_circuit.specs.Readers.{IsLive}
-use Rattle.block_sim.specs.Parts.{BelongTogether}
-use Rattle.block_sim.proofs.DeadRegions.{dead_class}
+use Rattle.flat_circuit.specs.{Arranged.IsArranged, Readers.IsLive}
+use Rattle.block_sim.{specs.Parts.BelongTogether, proofs.DeadRegions.dead_class}
 use Rattle.block_sim.proofs.PartsOfJobs.{seen, whole}
 use Rattle.block_sim.proofs.job.Job.is_dead.Goals as goal
 
@@ -14,10 +11,8 @@ returns c = λ dead span.
     let there = own.flat.arranged in
     let job = whole c.deref-parts.ensures c.self.invariant in
     let view = seen c.deref-parts.ensures c.self.view_is in
-    let at = c.place_of-stem.ensures.place
-    ∙ ap (λ p. place p.circuit there c.args.row.stem) view in
+    let at = c.place_of-stem.ensures.place ∙ ap (λ p. place p.circuit there c.args.row.stem) view in
     dead_class c.args.self.now there (subst BelongTogether view job.together)
     (subst (λ p. IsArranged p.circuit there) view c.signals-signals.ensures.arranged)
-    c.args.row c.requires
-    (λ live. false≢true (sym (not-true _ dead)
+    c.args.row c.requires (λ live. false≢true (sym (not-true _ dead)
     ∙ c.is_live.ensures.1 (subst (IsLive there) (sym at) live))) span

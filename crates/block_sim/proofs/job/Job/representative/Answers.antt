@@ -1,7 +1,5 @@
-use Rattle.std.proofs.Common.{◌<◌, ap, arith, length, refl, subst}
-use Rattle.std.proofs.lemmas.Option.{slice_get_read}
-use Rattle.block_sim.specs.Listed.{IsRepresentativeOf}
-use Rattle.block_sim.proofs.PartsOfJobs.{whole, seen}
+use Rattle.std.proofs.{Common.{◌<◌, ap, arith, length, refl, subst}, lemmas.Option.slice_get_read}
+use Rattle.block_sim.{specs.Listed.IsRepresentativeOf, proofs.PartsOfJobs.{whole, seen}}
 use Rattle.block_sim.proofs.job.Job.representative.Goals as goal
 
 pub returns : goal.returns

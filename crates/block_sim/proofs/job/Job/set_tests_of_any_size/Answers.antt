@@ -1,8 +1,7 @@
 use Rattle.std.proofs.Common.{◌∙◌, ap, length, map, subst, sym}
 use Rattle.bench_net.specs.Scan.{sources}
 use Rattle.flat_circuit.specs.GroupRows.{AreFaultFree}
-use Rattle.block_sim.specs.declared.job.JobParts.{JobParts}
-use Rattle.block_sim.proofs.PartsOfJobs.{seen, taken, whole}
+use Rattle.block_sim.{specs.declared.job.JobParts.JobParts, proofs.PartsOfJobs.{seen, taken, whole}}
 use Rattle.block_sim.proofs.job.Job.set_tests_of_any_size.Goals as goal
 
 pub invariant_of-self : goal.invariant_of-self

@@ -1,5 +1,4 @@
-use Rattle.std.proofs.Common.{◌<◌, ap, arith, length, refl, subst}
-use Rattle.std.proofs.lemmas.Option.{slice_get_read}
+use Rattle.std.proofs.{Common.{◌<◌, ap, arith, length, refl, subst}, lemmas.Option.slice_get_read}
 use Rattle.bench_net.specs.Scan.{names}
 use Rattle.flat_circuit.specs.Regions.{IsStemOfClass}
 use Rattle.block_sim.proofs.PartsOfJobs.{whole, seen}

@@ -1,10 +1,8 @@
 use Rattle.std.proofs.Common.{◌≡◌, ◌<◌, ◌/◌, ◌∙◌, ap, subst, arith, length, get_or}
 use Rattle.std.proofs.lemmas.List.{length-map, get_or_read}
-use Rattle.flat_circuit.specs.BlockSpans.{groups}
-use Rattle.flat_circuit.specs.Words.{IsFaultFreeWord, lane}
-use Rattle.block_sim.proofs.BitBefore.{fault_free_lane}
-use Rattle.block_sim.proofs.ArrangedWords.{word_there}
+use Rattle.flat_circuit.specs.{BlockSpans.groups, Words.{IsFaultFreeWord, lane}}
 use Rattle.flat_circuit.proofs.Public.{mapped_get}
+use Rattle.block_sim.proofs.{BitBefore.fault_free_lane, ArrangedWords.word_there}
 use Rattle.block_sim.proofs.PartsOfJobs.{whole, seen}
 use Rattle.block_sim.proofs.job.Job.word.Goals as goal
 
@@ -69,6 +67,5 @@ returns c =
     (subst (λ s. IsFaultFreeWord own.flat.arranged own.tests.tests c.args.block s
     c.block_word.result) c.place_of-place.ensures.place
     (fault_free_lane own.flat.arranged own.tests.tests c.args.block at
-    c.index.result.now.items c.block_word.result c.signals-signals.ensures.circuit.well_formed
-    row.1
+    c.index.result.now.items c.block_word.result c.signals-signals.ensures.circuit.well_formed row.1
     (λ k j lt place. c.block_word.ensures k j lt place ∙ ap (λ w. lane w j) read))))

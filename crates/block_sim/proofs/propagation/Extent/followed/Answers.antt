@@ -1,9 +1,6 @@
-use Rattle.std.proofs.Common.{sym, ◌∙◌, subst}
-use Rattle.std.proofs.lemmas.Bool.{false≢true}
-use Rattle.block_sim.specs.Propagation.{IsSettled}
-use Rattle.flat_circuit.specs.Words.{lane}
-use Rattle.flat_circuit.proofs.Public.{lane_and, left_of}
-use Rattle.block_sim.proofs.SettledLanes.{and_none, out_of}
+use Rattle.std.proofs.{Common.{sym, ◌∙◌, subst}, lemmas.Bool.false≢true}
+use Rattle.block_sim.{specs.Propagation.IsSettled, proofs.SettledLanes.{and_none, out_of}}
+use Rattle.flat_circuit.{specs.Words.lane, proofs.Public.{lane_and, left_of}}
 use Rattle.block_sim.proofs.propagation.Extent.followed.Goals as goal
 
 pub returns-in-FirstHits-clause-within : goal.returns-in-FirstHits-clause-within

@@ -27,12 +27,7 @@ loop-signal-preserved c =
     (signals_there flat.statements flat.arranged well arranged).apart s pins added.0 starts
     c.loop-signal.invariant own within in
     let number : c.in_ok-starts-2.field-0 ≡ length pins =
-    omega (
-      arith,
-      c.in_ok-starts-2.ensures,
-      c.len.ensures,
-      c.loop-signal.pins.ok.0,
-    ) in
+    omega (arith, c.in_ok-starts-2.ensures, c.len.ensures, c.loop-signal.pins.ok.0) in
     subst (λ l. AreGatePins flat.statements flat.arranged (s + 1) l
     (set starts c.place_of-in-loop-signal.result c.in_ok-starts-2.field-0)) (sym added.2)
     (subst (λ x. AreGatePins flat.statements flat.arranged (s + 1) (pins ++ added.0)

@@ -1,7 +1,5 @@
-use Rattle.std.proofs.Common.{◌≡◌, ◌∙◌, ℕ, List, [], ◌∷◌, ◌++◌, ap, arith}
-use Rattle.std.proofs.Common.{length, map, refl, subst, sym}
-use Rattle.std.specs.Prelude.{All}
-use Rattle.std.proofs.lemmas.List.{length-append}
+use Rattle.std.proofs.Common.{◌≡◌, ◌∙◌, ℕ, List, [], ◌∷◌, ◌++◌, ap, arith, length, map, refl, subst}
+use Rattle.std.{proofs.Common.sym, specs.Prelude.All, proofs.lemmas.List.length-append}
 use Rattle.std.proofs.lemmas.List.Elements.{All-nil}
 use Rattle.blocking_pins.proofs.VecRows.{all_pushed, rows_of}
 use Rattle.blocking_pins.proofs.tally.Tally.new.Goals as goal

@@ -1,5 +1,4 @@
-use Rattle.std.proofs.Common.{◌≡◌, length, map}
-use Rattle.std.specs.Prelude.{All}
+use Rattle.std.{proofs.Common.{◌≡◌, length, map}, specs.Prelude.All}
 use Rattle.blocking_pins.proofs.tally.Tally.new.Given as goal
 
 abbrev pub invariant-loop-group : goal.invariant-loop-group

@@ -1,11 +1,8 @@
-use Rattle.std.proofs.Common.{◌<◌, ◌∙◌, All, ap, length, subst, sym}
-use Rattle.std.specs.Prelude.{nat_lt}
+use Rattle.std.{proofs.Common.{◌<◌, ◌∙◌, All, ap, length, subst, sym}, specs.Prelude.nat_lt}
 use Rattle.region_runs.specs.Tasks.{AreKept, task_of}
 use Rattle.n_detect.specs.HitCounts.{IsHitCount}
-use Rattle.class_lists.specs.Orders.{numbers_at}
-use Rattle.class_lists.specs.Lists.{AreClassCounts}
-use Rattle.class_lists.proofs.ClassCounts.{counts_are}
-use Rattle.class_lists.proofs.ListOrders.{all_in_order, kept_back}
+use Rattle.class_lists.specs.{Orders.numbers_at, Lists.AreClassCounts}
+use Rattle.class_lists.proofs.{ClassCounts.counts_are, ListOrders.{all_in_order, kept_back}}
 use Rattle.class_lists.proofs.list_simulation.ListSimulation.detections.Goals as goal
 
 pub counts_of-requires-clause-classes : goal.counts_of-requires-clause-classes

@@ -1,8 +1,7 @@
 use Rattle.std.proofs.Common.{◌<◌, ◌∙◌, ℕ, All, List, None, Option, ap, length, map, subst, sym}
 use Rattle.std.specs.Prelude.{slice_index_or}
-use Rattle.region_runs.specs.Tasks.{AreKept, first_tests}
+use Rattle.region_runs.{specs.Tasks.{AreKept, first_tests}, proofs.Public.firsts_kept}
 use Rattle.workers.specs.Verdict.{AreClassFirsts}
-use Rattle.region_runs.proofs.Public.{firsts_kept}
 use Rattle.class_lists.proofs.ListOrders.{all_in_order, kept_back}
 use Rattle.class_lists.proofs.list_simulation.ListSimulation.first_tests.Goals as goal
 

@@ -1,7 +1,6 @@
 use Rattle.std.proofs.Common.{◌<◌, ◌∙◌, All, ap, length, subst, sym}
 use Rattle.n_detect.specs.ListLanes.{AreListLanes}
-use Rattle.class_lists.specs.Orders.{numbers_at}
-use Rattle.class_lists.proofs.ListOrders.{all_in_order, lanes_back}
+use Rattle.class_lists.{specs.Orders.numbers_at, proofs.ListOrders.{all_in_order, lanes_back}}
 use Rattle.class_lists.proofs.list_simulation.ListSimulation.lanes.Goals as goal
 
 pub list_lanes-requires-clause-classes : goal.list_lanes-requires-clause-classes

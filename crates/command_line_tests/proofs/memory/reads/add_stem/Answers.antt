@@ -1,8 +1,7 @@
 use Rattle.std.proofs.Common.{◌≡◌, ◌<◌, ◌∙◌, ap, length, sym, ℕ}
 use Rattle.bench_net.specs.Scan.{names}
 use Rattle.block_sim.specs.Parts.{BelongTogether, Parts}
-use Rattle.fault_model.specs.Fault.{FaultList, faults}
-use Rattle.fault_model.specs.Signals.{IsSignalOf}
+use Rattle.fault_model.specs.{Fault.{FaultList, faults}, Signals.IsSignalOf}
 use Rattle.command_line_tests.proofs.memory.reads.add_stem.Goals as goal
 
 -- the signals of a job are in range of its faults

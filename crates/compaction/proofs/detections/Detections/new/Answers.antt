@@ -1,5 +1,4 @@
-use Rattle.std.proofs.Common.{◌≡◌, ◌∙◌, ap, length, subst, sym}
-use Rattle.std.proofs.lemmas.List.{length-map}
+use Rattle.std.proofs.{Common.{◌≡◌, ◌∙◌, ap, length, subst, sym}, lemmas.List.length-map}
 use Rattle.compaction.specs.Detections.{HasGroups, words_of}
 use Rattle.compaction.proofs.DetectedClasses.{detects_classes, has_groups}
 use Rattle.compaction.proofs.detections.Detections.new.Goals as goal

@@ -6,7 +6,8 @@ pub returns-clause-words : goal.returns-clause-words
 returns-clause-words c =
     let inside = c.self.inside in
     c.row_of.ensures
-    ∙ (ap (λ l. get_or (words_of c.as_slice.result.now l) c.args.class []) c.as_slice-2.ensures.value
+    ∙ (ap (λ l. get_or (words_of c.as_slice.result.now l) c.args.class [])
+    c.as_slice-2.ensures.value
     ∙ (ap (λ l. get_or (words_of l inside.rows.items) c.args.class []) c.as_slice.ensures.value
     ∙ ap (λ t. get_or t.words c.args.class []) c.self.view_is))
 

@@ -1,6 +1,5 @@
 use Rattle.std.proofs.Common.{Some, ap, arith, subst}
-use Rattle.compaction.specs.LastHits.{IsLastHit}
-use Rattle.compaction.proofs.LastTests.{last_before, last_later}
+use Rattle.compaction.{specs.LastHits.IsLastHit, proofs.LastTests.{last_before, last_later}}
 use Rattle.compaction.proofs.lasting.LastTestWindowGoal.join.Goals as goal
 
 pub returns-in-Some : goal.returns-in-Some

@@ -1,5 +1,4 @@
-use Rattle.std.proofs.Common.{◌≡◌, ◌<◌, length, sym, subst}
-use Rattle.std.specs.Prelude.{slice_index_or}
+use Rattle.std.{proofs.Common.{◌≡◌, ◌<◌, length, sym, subst}, specs.Prelude.slice_index_or}
 use Rattle.event_queue.proofs.ChangedWords.{listed_more}
 use Rattle.event_queue.proofs.overlay.Overlay.change.Goals as goal
 

@@ -1,7 +1,5 @@
-use Rattle.std.proofs.Common.{◌≡◌, ap, arith, length, sym, subst}
-use Rattle.std.proofs.lemmas.List.{with_items_is}
-use Rattle.event_queue.specs.Overlay.{IsOverlay}
-use Rattle.event_queue.proofs.ChangedWords.{none_listed}
+use Rattle.std.proofs.{Common.{◌≡◌, ap, arith, length, sym, subst}, lemmas.List.with_items_is}
+use Rattle.event_queue.{specs.Overlay.IsOverlay, proofs.ChangedWords.none_listed}
 use Rattle.event_queue.proofs.overlay.Overlay.clear.Goals as goal
 
 pub invariant_of-self : goal.invariant_of-self

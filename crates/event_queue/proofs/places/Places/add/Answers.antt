@@ -1,8 +1,6 @@
 use Rattle.std.proofs.Common.{◌<◌, ◌/◌, ◌∙◌, ap, arith, length, sym, subst}
-use Rattle.std.specs.Prelude.{slice_set}
-use Rattle.std.proofs.lemmas.List.{get_or_read}
-use Rattle.event_queue.specs.Places.{flags}
-use Rattle.event_queue.proofs.Flags.{flags_count, set_flags}
+use Rattle.std.{specs.Prelude.slice_set, proofs.lemmas.List.get_or_read}
+use Rattle.event_queue.{specs.Places.flags, proofs.Flags.{flags_count, set_flags}}
 use Rattle.event_queue.proofs.PlacesTaken.{places_more}
 use Rattle.event_queue.proofs.places.Places.add.Goals as goal
 
@@ -68,5 +66,4 @@ returns c =
     let in_words : c.args.place / 64 < length words = omega (arith, lt, count) in
     set_flags words c.args.place c.index-bits.result.now in_words
     (sym (get_or_read words (c.args.place / 64) c.index-bits.result.now in_words
-    c.index-bits.ensures 0))
-    ∙ ap (λ w. slice_set w c.args.place 1) c.self.view_is
+    c.index-bits.ensures 0)) ∙ ap (λ w. slice_set w c.args.place 1) c.self.view_is

@@ -1,11 +1,10 @@
 use Rattle.std.proofs.Common.{◌≡◌, ◌≢◌, ◌<◌, ◌≤◌, ◌/◌, ◌*◌, ◌∙◌, ℕ, arith, length, sym, subst, refl}
 use Rattle.std.specs.Prelude.{slice_index_or, slice_set}
 use Rattle.std.proofs.lemmas.List.{get_or_read, length-set}
-use Rattle.event_queue.specs.Places.{flag}
-use Rattle.event_queue.proofs.Zeros.{one_more, zeros_le}
+use Rattle.event_queue.{specs.Places.flag, proofs.Zeros.{one_more, zeros_le}}
 use Rattle.event_queue.proofs.PlacesTaken.{places_none, word_low, word_within, low_less, all_zero}
-use Rattle.event_queue.proofs.places.Places.clear.Goals as goal
 use Rattle.event_queue.proofs.places.Places.clear.Goals.{In-Some}
+use Rattle.event_queue.proofs.places.Places.clear.Goals as goal
 
 pub loop-word-init : goal.loop-word-init
 loop-word-init c = record {
@@ -49,8 +48,7 @@ loop-word-preserved c =
 
 pub returns-clause-clear : goal.returns-clause-clear
 returns-clause-clear c = all_zero c.loop-word.self-inside.words.items
-    c.loop-word.self-inside.summary.items
-    (c.args.from / 4096) c.loop-word.invariant.places
+    c.loop-word.self-inside.summary.items (c.args.from / 4096) c.loop-word.invariant.places
     (λ w. let at = c.loop-word.invariant.low w in λ ne. omega (arith, at ne))
     (subst (λ l. (w : ℕ) → 64 * (c.args.from / 4096) ≤ w → flag l w ≡ 0) c.as_slice.ensures.value
     c.in_default.ensures.none)

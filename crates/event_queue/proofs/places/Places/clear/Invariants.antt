@@ -1,7 +1,5 @@
-use Rattle.std.proofs.Common.{◌≡◌, ◌≢◌, ◌≤◌, ◌-◌, ◌/◌, ℕ, length}
-use Rattle.std.specs.Prelude.{slice_index_or}
-use Rattle.event_queue.specs.Places.{ArePlaces}
-use Rattle.event_queue.specs.Zeros.{zeros}
+use Rattle.std.{proofs.Common.{◌≡◌, ◌≢◌, ◌≤◌, ◌-◌, ◌/◌, ℕ, length}, specs.Prelude.slice_index_or}
+use Rattle.event_queue.specs.{Places.ArePlaces, Zeros.zeros}
 use Rattle.event_queue.proofs.places.Places.clear.Given as goal
 
 abbrev pub invariant-loop-word : goal.invariant-loop-word

@@ -1,15 +1,12 @@
 use Rattle.std.proofs.Common.{◌≡◌, ◌≢◌, ◌<◌, ◌≤◌, ◌/◌, ◌*◌, ◌+◌, ◌∙◌, ℕ, ap, arith, length, sym}
-use Rattle.std.proofs.Common.{subst, refl}
-use Rattle.std.specs.Prelude.{All, slice_index_or, slice_set}
-use Rattle.std.specs.Int.{trailing_zeros, w64}
-use Rattle.std.proofs.lemmas.List.{get_or_read}
-use Rattle.event_queue.specs.Places.{flags}
-use Rattle.event_queue.proofs.Flags.{flags_count}
-use Rattle.event_queue.proofs.PlacesTaken.{places_none, word_low, place_set, place_least}
-use Rattle.event_queue.proofs.PlacesTaken.{rest_fits, without_place, none_set}
-use Rattle.event_queue.proofs.places.Places.take.Goals as goal
+use Rattle.std.{proofs.Common.{subst, refl}, specs.Prelude.{All, slice_index_or, slice_set}}
+use Rattle.std.{specs.Int.{trailing_zeros, w64}, proofs.lemmas.List.get_or_read}
+use Rattle.event_queue.{specs.Places.flags, proofs.Flags.flags_count}
+use Rattle.event_queue.proofs.PlacesTaken.{places_none, word_low, place_set, place_least, rest_fits}
+use Rattle.event_queue.proofs.PlacesTaken.{without_place, none_set}
 use Rattle.event_queue.proofs.places.Places.take.Goals.{After-index_mut-in-Some, Then-rest-ne0}
 use Rattle.event_queue.proofs.places.Places.take.Goals.{In-Some}
+use Rattle.event_queue.proofs.places.Places.take.Goals as goal
 
 pub least_word-requires-clause-within : goal.least_word-requires-clause-within
 least_word-requires-clause-within c =
@@ -24,8 +21,7 @@ pub least_word-requires-clause-low : goal.least_word-requires-clause-low
 least_word-requires-clause-low c =
     let words = c.self.inside.words.items in
     subst (λ l. (w : ℕ) → slice_index_or l w 0 ≢ 0 → c.args.from / 64 ≤ w)
-    (sym c.as_slice.ensures.value)
-    (word_low words c.args.from c.self.invariant.fits
+    (sym c.as_slice.ensures.value) (word_low words c.args.from c.self.invariant.fits
     (subst (λ l. (p : ℕ) → slice_index_or l p 0 ≢ 0 → c.args.from ≤ p) (sym c.self.view_is)
     c.requires.low))
 

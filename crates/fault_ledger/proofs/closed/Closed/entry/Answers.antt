@@ -1,9 +1,6 @@
 use Rattle.std.proofs.Common.{◌≡◌, ap, ◌∙◌, map}
-use Rattle.fault_ledger.specs.declared.PieceState.TheVariants.{Open}
-use Rattle.fault_ledger.specs.Heads.{state_in}
-use Rattle.fault_ledger.specs.Seats.{ClosedFace}
-use Rattle.fault_ledger.specs.Words.{state_at}
-use Rattle.fault_ledger.proofs.ClassStatus.{found-entry}
+use Rattle.fault_ledger.specs.{declared.PieceState.TheVariants.Open, Heads.state_in, Words.state_at}
+use Rattle.fault_ledger.{specs.Seats.ClosedFace, proofs.ClassStatus.found-entry}
 use Rattle.fault_ledger.proofs.closed.Closed.entry.Goals as goal
 
 pub returns-clause-entry : goal.returns-clause-entry

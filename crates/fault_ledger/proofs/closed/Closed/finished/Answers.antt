@@ -1,8 +1,6 @@
 use Rattle.std.proofs.Common.{◌≡◌, ◌<◌, ℕ, Option, sym, ap, subst, arith, below_more}
-use Rattle.fault_ledger.specs.declared.Status.TheVariants.{Settled}
-use Rattle.fault_ledger.specs.History.{piece_count}
-use Rattle.fault_ledger.specs.Settled.{status}
-use Rattle.fault_ledger.specs.Seats.{ClosedFace, closed_of}
+use Rattle.fault_ledger.specs.{declared.Status.TheVariants.Settled, History.piece_count}
+use Rattle.fault_ledger.specs.{Settled.status, Seats.{ClosedFace, closed_of}}
 use Rattle.fault_ledger.proofs.AllSettled.{finish-waits, finish-all, finish-none}
 use Rattle.fault_ledger.proofs.closed.Closed.finished.Goals as goal
 

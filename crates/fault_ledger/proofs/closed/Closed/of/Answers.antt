@@ -1,12 +1,8 @@
 use Rattle.std.proofs.Common.{◌≡◌, ℕ, ◌<◌, Bool, true, false, min, nat_lt, List, map, length}
-use Rattle.std.proofs.Common.{slice_index, refl, arith}
-use Rattle.std.proofs.lemmas.List.{get_or_past}
+use Rattle.std.proofs.{Common.{slice_index, refl, arith}, lemmas.List.get_or_past}
 use borrow.Author.Tests.{ltb-true, ltb-false}
-use Rattle.fault_ledger.specs.declared.Shape.{Shape}
-use Rattle.fault_ledger.specs.declared.PieceState.{PieceState}
-use Rattle.fault_ledger.specs.History.{block_count, piece_count}
-use Rattle.fault_ledger.specs.Heads.{IsHead, AreHeads}
-use Rattle.fault_ledger.specs.Words.{state_at}
+use Rattle.fault_ledger.specs.{declared.Shape.Shape, declared.PieceState.PieceState, Words.state_at}
+use Rattle.fault_ledger.specs.{History.{block_count, piece_count}, Heads.{IsHead, AreHeads}}
 use Rattle.fault_ledger.proofs.PieceNumbers.{no_block}
 use Rattle.fault_ledger.proofs.closed.Closed.of.Goals as goal
 

@@ -1,6 +1,5 @@
 use Rattle.std.proofs.Common.{◌≡◌, ℕ, ◌<◌, map, slice_index, vec_len}
-use Rattle.fault_ledger.specs.Heads.{IsHead}
-use Rattle.fault_ledger.specs.Words.{state_at}
+use Rattle.fault_ledger.specs.{Heads.IsHead, Words.state_at}
 use Rattle.fault_ledger.proofs.closed.Closed.of.Given as goal
 
 abbrev pub invariant-loop-class : goal.invariant-loop-class

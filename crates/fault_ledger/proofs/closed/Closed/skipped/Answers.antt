@@ -1,22 +1,16 @@
 use Rattle.std.proofs.Common.{◌≡◌, ◌<◌, ◌≤◌, ◌+◌, length, map, sym, ap, ◌∙◌, arith, eqb, eq-eqb}
-use Rattle.std.proofs.Common.{ne_eqb, get_or}
-use Rattle.std.proofs.lemmas.Grind.{get_or_default_zero}
-use Rattle.std.proofs.lemmas.List.{take_all}
-use Rattle.std.proofs.lemmas.List.Sums.{count_by_more_yes, count_by_more_no}
+use Rattle.std.proofs.{Common.{ne_eqb, get_or}, lemmas.Grind.get_or_default_zero}
+use Rattle.std.proofs.lemmas.List.{take_all, Sums.{count_by_more_yes, count_by_more_no}}
 use Rattle.std.specs.Prelude.{count_by}
-use Rattle.patterns.specs.Tests.{max_pieces}
-use Rattle.patterns.proofs.Public.{length-map-below}
+use Rattle.patterns.{specs.Tests.max_pieces, proofs.Public.length-map-below}
 use Rattle.fault_ledger.specs.declared.PieceState.TheVariants as state
-use Rattle.fault_ledger.specs.History.{entry, piece_count}
-use Rattle.fault_ledger.specs.Settled.{is_skipped}
-use Rattle.fault_ledger.specs.Seats.{ClosedFace}
-use Rattle.fault_ledger.specs.Words.{state_at}
+use Rattle.fault_ledger.specs.{History.{entry, piece_count}, Settled.is_skipped, Seats.ClosedFace}
+use Rattle.fault_ledger.{specs.Words.state_at, proofs.ShapeLimits.few_pieces}
 use Rattle.fault_ledger.proofs.FieldCodes.{codes_long, state_of_code, skipped_code}
-use Rattle.fault_ledger.proofs.ShapeLimits.{few_pieces}
-use Rattle.fault_ledger.proofs.closed.Closed.skipped.Goals as goal
 use Rattle.fault_ledger.proofs.closed.Closed.skipped.Goals.{After-self, After-index}
 use Rattle.fault_ledger.proofs.closed.Closed.skipped.Goals.{then-from-eq-SKIPPED}
 use Rattle.fault_ledger.proofs.closed.Closed.skipped.Goals.{else-from-eq-SKIPPED}
+use Rattle.fault_ledger.proofs.closed.Closed.skipped.Goals as goal
 
 -- there are no more codes than pieces
 few : (c : After-self) → length c.self.inside.codes.items ≤ max_pieces
@@ -81,8 +75,7 @@ loop-piece-preserved c =
         few = (let e = b.skipped-is in let f = was.few in omega (arith, e, f));
         count = b.skipped-is ∙ was.count
             ∙ sym (count_by_more_no is_skipped states p state.Open within (here at.After-index
-            ∙ ne_eqb c.index.result.now 2
-            (λ e. b.if-from-eq-SKIPPED.false (c.from.ensures ∙ e))));
+            ∙ ne_eqb c.index.result.now 2 (λ e. b.if-from-eq-SKIPPED.false (c.from.ensures ∙ e))));
       }
     ]
 

@@ -1,5 +1,4 @@
-use Rattle.std.proofs.Common.{◌≡◌, ◌≤◌, take}
-use Rattle.std.specs.Prelude.{count_by}
+use Rattle.std.{proofs.Common.{◌≡◌, ◌≤◌, take}, specs.Prelude.count_by}
 use Rattle.fault_ledger.specs.Settled.{is_skipped}
 use Rattle.fault_ledger.proofs.closed.Closed.skipped.Given as goal
 

@@ -1,21 +1,16 @@
 use Rattle.std.proofs.Common.{◌≡◌, ◌+◌, ◌*◌, ◌<◌, ◌≤◌, List, map, slice_index, Some, None, sym, ap}
 use Rattle.std.proofs.Common.{◌∙◌, subst, arith}
 use Rattle.patterns.specs.Tests.{max_pieces}
-use Rattle.fault_ledger.specs.declared.PieceState.{PieceState}
-use Rattle.fault_ledger.specs.declared.Status.{Status}
-use Rattle.fault_ledger.specs.declared.Status.TheVariants.{Settled, Waiting}
-use Rattle.fault_ledger.specs.History.{History, block_count, states_of}
-use Rattle.fault_ledger.specs.Answer.{IsLegal}
-use Rattle.fault_ledger.specs.Settled.{status}
-use Rattle.fault_ledger.specs.Heads.{state_in, IsHead}
-use Rattle.fault_ledger.specs.Seats.{ClosedFace, closed_face}
-use Rattle.fault_ledger.specs.Words.{state_at}
-use Rattle.fault_ledger.proofs.ShapeLimits.{few_blocks}
+use Rattle.fault_ledger.specs.declared.{PieceState.PieceState, Status.Status}
+use Rattle.fault_ledger.specs.{declared.Status.TheVariants.{Settled, Waiting}, Answer.IsLegal}
+use Rattle.fault_ledger.specs.{History.{History, block_count, states_of}, Settled.status}
+use Rattle.fault_ledger.specs.{Heads.{state_in, IsHead}, Seats.{ClosedFace, closed_face}}
+use Rattle.fault_ledger.{specs.Words.state_at, proofs.ShapeLimits.few_blocks}
 use Rattle.fault_ledger.proofs.ClassStatus.{shown-hit, shown-skipped, shown-status, status-hit}
 use Rattle.fault_ledger.proofs.ClassStatus.{status-open, status-none}
-use Rattle.fault_ledger.proofs.closed.Closed.status.Goals as goal
 use Rattle.fault_ledger.proofs.closed.Closed.status.Goals.{After-clear_of-clear, After-deref-2}
 use Rattle.fault_ledger.proofs.closed.Closed.status.Goals.{After-state_of}
+use Rattle.fault_ledger.proofs.closed.Closed.status.Goals as goal
 
 -- the states that the codes stand for
 abbrev states : (c : After-clear_of-clear) → List PieceState

@@ -1,19 +1,15 @@
 use Rattle.std.proofs.Common.{◌≡◌, ◌+◌, ◌%◌, ◌/◌, ◌<◌, ◌≤◌, Some, set, length, slice_get, sym, ◌∙◌}
-use Rattle.std.proofs.Common.{subst, ap}
-use Rattle.std.proofs.Common.{arith}
-use Rattle.std.proofs.lemmas.Option.{slice_get_read}
+use Rattle.std.proofs.{Common.{subst, ap, arith}, lemmas.Option.slice_get_read}
 use Rattle.patterns.specs.Tests.{max_pieces}
-use Rattle.fault_ledger.specs.declared.Refusal.TheVariants.{Holding}
-use Rattle.fault_ledger.specs.declared.Claim.TheVariants as claim_is
-use Rattle.fault_ledger.specs.declared.Call.TheVariants as call
-use Rattle.fault_ledger.specs.declared.Reply.TheVariants.{Claimed, Refused}
-use Rattle.fault_ledger.specs.History.{piece_count}
-use Rattle.fault_ledger.specs.Face.{Face, Answers}
+use Rattle.fault_ledger.specs.{declared.Refusal.TheVariants.Holding, History.piece_count}
+use Rattle.fault_ledger.specs.{declared.Reply.TheVariants.{Claimed, Refused}, Face.{Face, Answers}}
 use Rattle.fault_ledger.proofs.CallReplies.{faced, ledger-holding, ledger-states, ledger-few}
 use Rattle.fault_ledger.proofs.CallReplies.{ledger-after, none_of, some_of, claim-holding}
 use Rattle.fault_ledger.proofs.CallReplies.{claim-exhausted, claim-piece}
-use Rattle.fault_ledger.proofs.sequential.Ledger.claim.Goals as goal
 use Rattle.fault_ledger.proofs.sequential.Ledger.claim.Goals.{After-is_some}
+use Rattle.fault_ledger.specs.declared.Claim.TheVariants as claim_is
+use Rattle.fault_ledger.specs.declared.Call.TheVariants as call
+use Rattle.fault_ledger.proofs.sequential.Ledger.claim.Goals as goal
 
 pub index-requires : goal.index-requires
 index-requires c =

@@ -1,22 +1,17 @@
 use Rattle.std.proofs.Common.{◌≡◌, ℕ, ◌%◌, ◌/◌, ◌<◌, List, Option, Some, None, Err, set, get_or}
-use Rattle.std.proofs.Common.{rules}
-use Rattle.std.proofs.Common.{nat_lt, slice_get, sym, ◌∙◌, subst, ap, arith, lt-ltb, le-ltb}
-use Rattle.std.proofs.lemmas.Option.{slice_get_within}
-use Rattle.std.proofs.lemmas.Result.{err_from_is_err_and}
-use Rattle.fault_ledger.specs.declared.PieceState.TheVariants.{Skipped}
-use Rattle.fault_ledger.specs.declared.Refusal.TheVariants.{NoEarlierHit}
-use Rattle.fault_ledger.specs.declared.Call.TheVariants as call
+use Rattle.std.proofs.Common.{rules, nat_lt, slice_get, sym, ◌∙◌, subst, ap, arith, lt-ltb, le-ltb}
+use Rattle.std.proofs.lemmas.{Option.slice_get_within, Result.err_from_is_err_and}
+use Rattle.fault_ledger.specs.{declared.PieceState.TheVariants.Skipped, Answer.done_reply_of}
+use Rattle.fault_ledger.specs.{declared.Refusal.TheVariants.NoEarlierHit, Face.{Face, Answers}}
 use Rattle.fault_ledger.specs.declared.Reply.TheVariants.{Done, Refused}
-use Rattle.fault_ledger.specs.History.{piece_count, class_of}
-use Rattle.fault_ledger.specs.Answer.{done_reply_of}
-use Rattle.fault_ledger.specs.Face.{Face, Answers}
-use Rattle.fault_ledger.proofs.PieceNumbers.{some_class}
+use Rattle.fault_ledger.{specs.History.{piece_count, class_of}, proofs.PieceNumbers.some_class}
 use Rattle.fault_ledger.proofs.CallReplies.{faced, FoundNone, ledger-states, ledger-after}
 use Rattle.fault_ledger.proofs.CallReplies.{found-piece, shows_hit, drop-refused, drop-bad}
 use Rattle.fault_ledger.proofs.CallReplies.{drop-done}
 use Rattle.fault_ledger.proofs.LowestHits.{hit_of, number_at, lowest-dropped, lowest-shows}
-use Rattle.fault_ledger.proofs.sequential.Ledger.drop_piece.Goals as goal
 use Rattle.fault_ledger.proofs.sequential.Ledger.drop_piece.Goals.{In_ok-piece}
+use Rattle.fault_ledger.specs.declared.Call.TheVariants as call
+use Rattle.fault_ledger.proofs.sequential.Ledger.drop_piece.Goals as goal
 
 pub returns-in_err-piece-clause-answer : goal.returns-in_err-piece-clause-answer
 returns-in_err-piece-clause-answer c =
@@ -71,8 +66,7 @@ shows c n e =
     let within = in_range c in
     let a = hit_of s.shape s.states.items s.lowest_hits.items p c.self.invariant.1 within in
     lowest-shows (faced s.shape s.claimed s.holding.items s.states.items) p s.lowest_hits.items
-    c.self.invariant.1 within
-    ∙ ap (λ m. nat_lt m (p / s.shape.classes))
+    c.self.invariant.1 within ∙ ap (λ m. nat_lt m (p / s.shape.classes))
     (number_at s.lowest_hits.items (class_of s.shape p) n a e)
 
 pub returns-then-index-piece-clause-answer : goal.returns-then-index-piece-clause-answer

@@ -1,11 +1,8 @@
 use Rattle.std.proofs.Common.{◌≡◌, ◌<◌, ℕ, Option, Some, None, get_or, slice_get, sym, ap, ◌∙◌}
-use Rattle.std.proofs.Common.{subst, arith}
-use Rattle.std.specs.Option.{option_map}
+use Rattle.std.{proofs.Common.{subst, arith}, specs.Option.option_map}
 use Rattle.std.proofs.lemmas.Option.{slice_get_read}
-use Rattle.fault_ledger.specs.History.{History, held_by}
-use Rattle.fault_ledger.specs.Face.{Face, face, IsLedger}
-use Rattle.fault_ledger.specs.Seats.{class_and_block}
-use Rattle.fault_ledger.proofs.PieceNumbers.{some_class}
+use Rattle.fault_ledger.specs.{History.{History, held_by}, Face.{Face, face, IsLedger}}
+use Rattle.fault_ledger.{specs.Seats.class_and_block, proofs.PieceNumbers.some_class}
 use Rattle.fault_ledger.proofs.CallReplies.{faced, found-held, found-piece, ledger-holding}
 use Rattle.fault_ledger.proofs.sequential.Ledger.held.Goals as goal
 

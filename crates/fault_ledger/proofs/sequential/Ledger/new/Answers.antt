@@ -1,13 +1,9 @@
 use Rattle.std.proofs.Common.{◌≡◌, ℕ, List, [], None, replicate, min, rules, refl, sym, ap, ◌∙◌}
 use Rattle.std.proofs.Common.{subst}
-use Rattle.fault_ledger.specs.declared.Shape.{Shape}
-use Rattle.fault_ledger.specs.declared.PieceState.{PieceState}
-use Rattle.fault_ledger.specs.declared.PieceState.TheVariants.{Open}
+use Rattle.fault_ledger.specs.{declared.Shape.Shape, declared.PieceState.PieceState, Face.face}
+use Rattle.fault_ledger.specs.{declared.PieceState.TheVariants.Open, Lowest.AreLowestHits}
 use Rattle.fault_ledger.specs.History.{held_by, entry, block_count, piece_count}
-use Rattle.fault_ledger.specs.Face.{face}
-use Rattle.fault_ledger.specs.Lowest.{AreLowestHits}
-use Rattle.fault_ledger.proofs.ListsByPlace.{replicate-below}
-use Rattle.fault_ledger.proofs.CallReplies.{faced}
+use Rattle.fault_ledger.proofs.{ListsByPlace.replicate-below, CallReplies.faced}
 use Rattle.fault_ledger.proofs.LowestHits.{lowest-new}
 use Rattle.fault_ledger.proofs.sequential.Ledger.new.Goals as goal
 
@@ -42,17 +38,13 @@ lowest c =
     let count : c.classes_with_pieces.result ≡ min s.classes (piece_count s) =
     c.classes_with_pieces.ensures in
     subst (λ (l : List PieceState). AreLowestHits s l c.in_ok-lowest_hits.lowest_hits.items)
-    (sym states)
-    (subst (λ (l : List ℕ). AreLowestHits s (replicate c.pieces.result Open) l)
+    (sym states) (subst (λ (l : List ℕ). AreLowestHits s (replicate c.pieces.result Open) l)
     (sym (hits ∙ ap (replicate c.classes_with_pieces.result) blocks))
     (lowest-new s c.classes_with_pieces.result c.pieces.result count))
 
 pub invariant_of-result : goal.invariant_of-result
 invariant_of-result c = (
-  record {
-    limits = sym c.in_default.ensures;
-    history = ([], tt, opens c);
-  },
+  record { limits = sym c.in_default.ensures; history = ([], tt, opens c) },
   lowest c,
 )
 

@@ -1,23 +1,18 @@
 use Rattle.std.proofs.Common.{◌≡◌, ℕ, ◌<◌, true, List, Option, Some, None, Err, set, length, get_or}
-use Rattle.std.proofs.Common.{rules}
-use Rattle.std.proofs.Common.{slice_get, sym, ◌∙◌, subst, ap, arith}
-use Rattle.std.proofs.lemmas.Option.{slice_get_within}
-use Rattle.std.proofs.lemmas.Result.{err_from_is_err_and}
+use Rattle.std.proofs.Common.{rules, slice_get, sym, ◌∙◌, subst, ap, arith}
+use Rattle.std.proofs.lemmas.{Option.slice_get_within, Result.err_from_is_err_and}
 use Rattle.patterns.specs.Tests.{size_of}
-use Rattle.fault_ledger.specs.declared.PieceState.{PieceState}
-use Rattle.fault_ledger.specs.declared.Refusal.TheVariants.{BadOutcome}
-use Rattle.fault_ledger.specs.declared.Call.TheVariants as call
-use Rattle.fault_ledger.specs.declared.Reply.TheVariants.{Done, Refused}
+use Rattle.fault_ledger.specs.declared.{PieceState.PieceState, Refusal.TheVariants.BadOutcome}
+use Rattle.fault_ledger.specs.{declared.Reply.TheVariants.{Done, Refused}, Face.{Face, Answers}}
 use Rattle.fault_ledger.specs.History.{piece_count, class_of, block_of, state_of}
-use Rattle.fault_ledger.specs.Answer.{fits_size, done_reply_of}
-use Rattle.fault_ledger.specs.Face.{Face, Answers}
-use Rattle.fault_ledger.specs.Lowest.{AreLowestHits}
+use Rattle.fault_ledger.specs.{Answer.{fits_size, done_reply_of}, Lowest.AreLowestHits}
 use Rattle.fault_ledger.proofs.PieceNumbers.{some_class, block_of-below}
 use Rattle.fault_ledger.proofs.CallReplies.{faced, FoundNone, ledger-states, ledger-after}
 use Rattle.fault_ledger.proofs.CallReplies.{found-piece, report-refused, report-bad, report-done}
 use Rattle.fault_ledger.proofs.LowestHits.{hit_of, number_at, lowest_with, lowest-reported}
-use Rattle.fault_ledger.proofs.sequential.Ledger.report.Goals as goal
 use Rattle.fault_ledger.proofs.sequential.Ledger.report.Goals.{In_ok-piece}
+use Rattle.fault_ledger.specs.declared.Call.TheVariants as call
+use Rattle.fault_ledger.proofs.sequential.Ledger.report.Goals as goal
 
 pub returns-in_err-piece-clause-answer : goal.returns-in_err-piece-clause-answer
 returns-in_err-piece-clause-answer c =

@@ -1,6 +1,5 @@
 use Rattle.std.proofs.Common.{◌<◌, sym, subst, rules}
-use Rattle.fault_ledger.proofs.PieceNumbers.{some_class}
-use Rattle.fault_ledger.proofs.SeatSteps.{seated_piece}
+use Rattle.fault_ledger.proofs.{PieceNumbers.some_class, SeatSteps.seated_piece}
 use Rattle.fault_ledger.proofs.shared.Seat.held.Goals as goal
 
 pub class_and_block-place-requires : goal.class_and_block-place-requires

@@ -1,15 +1,11 @@
 use Rattle.std.proofs.Common.{◌≡◌, ◌<◌, ◌≤◌, true, Some, None, ap, sym, ◌∙◌, subst, arith}
-use Rattle.fault_ledger.specs.declared.Shape.{Shape}
-use Rattle.fault_ledger.specs.declared.Event.{Event}
-use Rattle.fault_ledger.specs.declared.Claim.TheVariants as claim_is
-use Rattle.fault_ledger.specs.declared.Call.TheVariants as call
-use Rattle.fault_ledger.specs.declared.Reply.TheVariants.{Claimed}
-use Rattle.fault_ledger.specs.History.{claims, piece_count}
-use Rattle.fault_ledger.specs.Answer.{answer}
-use Rattle.fault_ledger.specs.Seats.{Place, Sitter, IsSeated, Sees}
-use Rattle.fault_ledger.proofs.Histories.{held_goes_on}
+use Rattle.fault_ledger.specs.declared.{Shape.Shape, Event.Event, Reply.TheVariants.Claimed}
+use Rattle.fault_ledger.specs.{History.{claims, piece_count}, Answer.answer}
+use Rattle.fault_ledger.{specs.Seats.{Place, Sitter, IsSeated, Sees}, proofs.Histories.held_goes_on}
 use Rattle.fault_ledger.proofs.CallReplies.{none_of}
 use Rattle.fault_ledger.proofs.SeatSteps.{seated_ends, seated_makes, exhausted_at}
+use Rattle.fault_ledger.specs.declared.Claim.TheVariants as claim_is
+use Rattle.fault_ledger.specs.declared.Call.TheVariants as call
 use Rattle.fault_ledger.proofs.shared.SharedLedger.claim.Goals as goal
 
 -- the step of a claim that finds no piece
@@ -29,8 +25,7 @@ ends c =
     (subst (λ (x : Shape). piece_count x ≤ c.claim-piece.result) (sym c.self.invariant) many) in (
       none_of i.piece (sym c.is_some.ensures ∙ c.if-is_some.false),
       e.0,
-      e.1
-          ∙ ap (λ (p : Place). piece_count p.shape) (sym at),
+      e.1 ∙ ap (λ (p : Place). piece_count p.shape) (sym at),
     )
 
 pub invariant_of-seat : goal.invariant_of-seat
@@ -38,8 +33,7 @@ invariant_of-seat c =
     let i = c.seat.inside in
     let e = ends c in
     seated_ends i.token c.claim-piece.new.token i.worker i.exhausted i.row i.piece
-    i.remembered.items
-    c.seat.invariant e.0 e.1 e.2
+    i.remembered.items c.seat.invariant e.0 e.1 e.2
 
 pub returns-then-piece-pieces-clause-exhausted : goal.returns-then-piece-pieces-clause-exhausted
 returns-then-piece-pieces-clause-exhausted c = λ _ _.

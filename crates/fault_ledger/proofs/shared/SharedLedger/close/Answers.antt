@@ -1,11 +1,7 @@
 use Rattle.std.proofs.Common.{◌≡◌, map, ap, sym, ◌∙◌, subst}
-use Rattle.fault_ledger.specs.declared.Shape.{Shape}
-use Rattle.fault_ledger.specs.declared.words.Post.{Post}
-use Rattle.fault_ledger.specs.History.{ContinuesWithout, states_of}
-use Rattle.fault_ledger.specs.Answer.{IsLegal}
-use Rattle.fault_ledger.specs.Seats.{Place, closed_of}
-use Rattle.fault_ledger.specs.Words.{ForEach, state_at}
-use Rattle.fault_ledger.proofs.AllSeats.{of_each}
+use Rattle.fault_ledger.specs.{declared.Shape.Shape, declared.words.Post.Post, Answer.IsLegal}
+use Rattle.fault_ledger.specs.{History.{ContinuesWithout, states_of}, Seats.{Place, closed_of}}
+use Rattle.fault_ledger.{specs.Words.{ForEach, state_at}, proofs.AllSeats.of_each}
 use Rattle.fault_ledger.proofs.shared.SharedLedger.close.Goals as goal
 
 pub returns-clause-closed : goal.returns-clause-closed

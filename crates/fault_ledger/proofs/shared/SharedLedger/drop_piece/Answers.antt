@@ -1,13 +1,11 @@
 use Rattle.std.proofs.Common.{◌≡◌, ◌<◌, Some, None, false, true≢false, refl, ap, sym, ◌∙◌, subst}
-use Rattle.fault_ledger.specs.declared.Event.{Event}
-use Rattle.fault_ledger.specs.declared.Reply.TheVariants.{Done}
+use Rattle.fault_ledger.specs.declared.{Event.Event, Reply.TheVariants.Done}
 use Rattle.fault_ledger.specs.History.{History, ContinuesWithout, held_by, block_of, piece_count}
-use Rattle.fault_ledger.specs.Answer.{has_earlier_hit}
-use Rattle.fault_ledger.specs.Seats.{Place, Sitter, IsSitter, Makes}
+use Rattle.fault_ledger.specs.{Answer.has_earlier_hit, Seats.{Place, Sitter, IsSitter, Makes}}
 use Rattle.fault_ledger.proofs.SeatSteps.{seated_piece, seated_same, seated_makes, untold}
 use Rattle.fault_ledger.proofs.SeatSteps.{dropped_free, held_sees, finds_nothing, makes_after}
-use Rattle.fault_ledger.proofs.shared.SharedLedger.drop_piece.Goals as goal
 use Rattle.fault_ledger.proofs.shared.SharedLedger.drop_piece.Goals.{In-Some}
+use Rattle.fault_ledger.proofs.shared.SharedLedger.drop_piece.Goals as goal
 
 -- the seat holds the piece
 holding : (c : In-Some) → held_by c.args.seat.now.worker c.args.seat.now.seen ≡ Some c.in-Some.piece
@@ -36,8 +34,7 @@ returns-then-not-finds_earlier_hit-clause-no_earlier_hit c = λ _.
     (goal.at.returns-then-not-finds_earlier_hit-clause-no_earlier_hit c).In-Some) f.sees none
 
 pub drop_piece-requires-clause-held : goal.drop_piece-requires-clause-held
-drop_piece-requires-clause-held c =
-    ap (λ (x : Sitter). held_by x.worker x.seen) c.seat-2.view_is
+drop_piece-requires-clause-held c = ap (λ (x : Sitter). held_by x.worker x.seen) c.seat-2.view_is
     ∙ held_sees c.args.seat.now c.finds_earlier_hit.new.seat c.finds_earlier_hit.ensures.sees
     ∙ holding (goal.at.drop_piece-requires-clause-held c).In-Some
 
@@ -58,8 +55,7 @@ invariant_of-seat c =
     ∙ held_sees c.args.seat.now c.finds_earlier_hit.new.seat c.finds_earlier_hit.ensures.sees
     ∙ holding (goal.at.invariant_of-seat c).In-Some in
     seated_makes i.token now (Event.Drop i.token.worker) Done i.worker i.exhausted i.row i.piece
-    None
-    i.remembered.items c.seat-2.invariant
+    None i.remembered.items c.seat-2.invariant
     (untold i.token i.worker i.exhausted i.row i.piece i.remembered.items
     c.in-Some.piece c.seat-2.invariant here) c.drop_piece.ensures
     (dropped_free i.token now Done c.drop_piece.ensures)
@@ -81,8 +77,7 @@ pub returns-then-not-finds_earlier_hit-clause-block_zero
 returns-then-not-finds_earlier_hit-clause-block_zero c = λ piece holds first.
     let i = c.seat.inside in
     let same = seated_same i.token c.args.seat.now i.worker i.exhausted i.row i.piece
-    i.remembered.items
-    c.in-Some.piece piece c.seat.invariant c.seat.view_is c.in-Some.is holds in
+    i.remembered.items c.in-Some.piece piece c.seat.invariant c.seat.view_is c.in-Some.is holds in
     let none = c.finds_earlier_hit.ensures.block_zero
     (subst (λ p. block_of c.args.self.now.shape p ≡ 0) same first) in
     (refl, none.1)
@@ -91,8 +86,7 @@ pub returns-clause-block_zero : goal.returns-clause-block_zero
 returns-clause-block_zero c = λ piece holds first.
     let i = c.seat.inside in
     let same = seated_same i.token c.args.seat.now i.worker i.exhausted i.row i.piece
-    i.remembered.items
-    c.in-Some.piece piece c.seat.invariant c.seat.view_is c.in-Some.is holds in
+    i.remembered.items c.in-Some.piece piece c.seat.invariant c.seat.view_is c.in-Some.is holds in
     let none = c.finds_earlier_hit.ensures.block_zero
     (subst (λ p. block_of c.args.self.now.shape p ≡ 0) same first) in
     absurd (true≢false (sym c.if-not-finds_earlier_hit.false ∙ none.0))

@@ -1,18 +1,15 @@
 use Rattle.std.proofs.Common.{◌≡◌, ℕ, ◌+◌, ◌/◌, ◌%◌, ◌<◌, ◌≤◌, Bool, true, false, slice_index_or}
-use Rattle.std.proofs.Common.{rules}
-use Rattle.std.proofs.Common.{refl, sym, ap, ◌∙◌, subst, arith}
+use Rattle.std.proofs.Common.{rules, refl, sym, ap, ◌∙◌, subst, arith}
 use Rattle.fault_ledger.specs.History.{ContinuesWithout, class_of, block_of, piece_at, entry}
-use Rattle.fault_ledger.specs.Answer.{is_hit}
+use Rattle.fault_ledger.specs.{Answer.is_hit, Seats.nothing_seen}
 use Rattle.fault_ledger.specs.Seats.{Place, Sitter, Sees, EndsClear, Recalls, class_and_block}
-use Rattle.fault_ledger.specs.Seats.{nothing_seen}
-use Rattle.fault_ledger.proofs.SeatSteps.{seated_sees, sees_twice}
+use Rattle.fault_ledger.proofs.{SeatSteps.{seated_sees, sees_twice}, Histories.goes_on_same}
 use Rattle.fault_ledger.proofs.ClassLooks.{none_found, none_from, not_hit, hit_found}
-use Rattle.fault_ledger.proofs.shared.SharedLedger.finds_earlier_hit.Goals as goal
 use Rattle.fault_ledger.proofs.shared.SharedLedger.finds_earlier_hit.Goals.{
   After-class_and_block-class,
 }
 use Rattle.fault_ledger.proofs.shared.SharedLedger.finds_earlier_hit.Goals.{After-passes_clear-head}
-use Rattle.fault_ledger.proofs.Histories.{goes_on_same}
+use Rattle.fault_ledger.proofs.shared.SharedLedger.finds_earlier_hit.Goals as goal
 
 -- the class and the block of the piece
 placed : (c : After-class_and_block-class)

@@ -1,9 +1,6 @@
 use Rattle.std.proofs.Common.{◌≡◌, ◌≤◌, true, false, sym, ap, ◌∙◌, subst, arith, below_more}
-use Rattle.fault_ledger.specs.declared.Shape.{Shape}
-use Rattle.fault_ledger.specs.History.{piece_at, entry}
-use Rattle.fault_ledger.specs.Answer.{is_hit}
-use Rattle.fault_ledger.specs.Seats.{Place}
-use Rattle.fault_ledger.proofs.SeatSteps.{sees_twice}
+use Rattle.fault_ledger.specs.{declared.Shape.Shape, History.{piece_at, entry}, Answer.is_hit}
+use Rattle.fault_ledger.{specs.Seats.Place, proofs.SeatSteps.sees_twice}
 use Rattle.fault_ledger.proofs.ClassLooks.{not_hit, no_hit_before}
 use Rattle.fault_ledger.proofs.shared.SharedLedger.finds_hit.Goals as goal
 

@@ -1,7 +1,5 @@
 use Rattle.std.proofs.Common.{◌≡◌, ℕ, ◌<◌, ◌≤◌, false}
-use Rattle.fault_ledger.specs.History.{entry, piece_at}
-use Rattle.fault_ledger.specs.Answer.{is_hit}
-use Rattle.fault_ledger.specs.Seats.{Sees}
+use Rattle.fault_ledger.specs.{History.{entry, piece_at}, Answer.is_hit, Seats.Sees}
 use Rattle.fault_ledger.proofs.shared.SharedLedger.finds_hit.Given as goal
 
 abbrev pub invariant-loop-block : goal.invariant-loop-block

@@ -1,14 +1,12 @@
 use Rattle.std.proofs.Common.{◌≡◌, ◌⊎◌, ⊎_elim, refl, ℕ, ◌<◌, ◌≤◌, Option, sym, ap, ◌∙◌, subst}
 use Rattle.std.proofs.Common.{arith, below_more}
-use Rattle.fault_ledger.specs.declared.Shape.{Shape}
-use Rattle.fault_ledger.specs.History.{block_count, piece_count}
-use Rattle.fault_ledger.specs.Settled.{status, IsSettledAt}
-use Rattle.fault_ledger.specs.Seats.{Place, Sitter, IsSitter}
+use Rattle.fault_ledger.specs.{declared.Shape.Shape, History.{block_count, piece_count}}
+use Rattle.fault_ledger.specs.{Settled.{status, IsSettledAt}, Seats.{Place, Sitter, IsSitter}}
 use Rattle.fault_ledger.proofs.AllSettled.{finish-waits, finish-all, finish-none}
 use Rattle.fault_ledger.proofs.SeatSteps.{sees_same, sees_twice, sees_kept}
 use Rattle.fault_ledger.proofs.ClassLooks.{settled_stays}
-use Rattle.fault_ledger.proofs.shared.SharedLedger.finished.Goals as goal
 use Rattle.fault_ledger.proofs.shared.SharedLedger.finished.Goals.{After-classes-classes}
+use Rattle.fault_ledger.proofs.shared.SharedLedger.finished.Goals as goal
 
 -- the seat knows the number of classes
 count : (c : After-classes-classes) → c.classes-classes.result ≡ c.args.self.now.shape.classes

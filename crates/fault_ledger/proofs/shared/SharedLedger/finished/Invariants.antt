@@ -1,7 +1,5 @@
 use Rattle.std.proofs.Common.{◌≡◌, ◌⊎◌, ℕ, ◌<◌, Option}
-use Rattle.fault_ledger.specs.History.{block_count}
-use Rattle.fault_ledger.specs.Settled.{IsSettledAt}
-use Rattle.fault_ledger.specs.Seats.{Sees}
+use Rattle.fault_ledger.specs.{History.block_count, Settled.IsSettledAt, Seats.Sees}
 use Rattle.fault_ledger.proofs.shared.SharedLedger.finished.Given as goal
 
 abbrev pub invariant-loop-class : goal.invariant-loop-class

@@ -1,7 +1,6 @@
 use Rattle.std.proofs.Common.{◌≡◌, sym, ap, ◌∙◌, subst}
 use Rattle.fault_ledger.specs.declared.PieceState.TheVariants as state
-use Rattle.fault_ledger.specs.declared.shared.Remembered.{Remembered}
-use Rattle.fault_ledger.specs.Answer.{is_hit}
+use Rattle.fault_ledger.specs.{declared.shared.Remembered.Remembered, Answer.is_hit}
 use Rattle.fault_ledger.specs.Seats.{Place, Sitter, IsSeated, EndsClear, Recalls}
 use Rattle.fault_ledger.proofs.SeatSteps.{seated_sees, remembers_set}
 use Rattle.fault_ledger.proofs.shared.SharedLedger.passes_clear.Goals as goal
@@ -24,8 +23,7 @@ invariant_of-seat c =
     } in
     let seated = seated_sees i.token now i.worker i.exhausted i.row i.piece i.remembered.items
     c.seat.invariant f.sees in
-    subst (IsSeated now i.worker i.exhausted i.row i.piece) (sym c.remember.ensures)
-    (record {
+    subst (IsSeated now i.worker i.exhausted i.row i.piece) (sym c.remember.ensures) (record {
       sitter = seated.sitter;
       worker_is = seated.worker_is;
       exhausted_is = seated.exhausted_is;

@@ -1,15 +1,12 @@
 use Rattle.std.proofs.Common.{◌≡◌, sym, ap, ◌∙◌, subst, arith, below_more}
-use Rattle.fault_ledger.specs.declared.Shape.{Shape}
-use Rattle.fault_ledger.specs.declared.PieceState.TheVariants.{Clear}
-use Rattle.fault_ledger.specs.History.{piece_at, entry}
-use Rattle.fault_ledger.specs.Seats.{Place}
+use Rattle.fault_ledger.specs.declared.{Shape.Shape, PieceState.TheVariants.Clear}
+use Rattle.fault_ledger.specs.{History.{piece_at, entry}, Seats.Place}
 use Rattle.fault_ledger.proofs.SeatSteps.{clear_goes_on, sees_twice}
-use Rattle.fault_ledger.proofs.shared.SharedLedger.passes_clear_from.Goals as goal
 use Rattle.fault_ledger.proofs.shared.SharedLedger.passes_clear_from.Goals.{After-look}
+use Rattle.fault_ledger.proofs.shared.SharedLedger.passes_clear_from.Goals as goal
 
 -- the look shows what is so of the piece at the loop's place
-shown : (c : After-look)
-    → c.look.result
+shown : (c : After-look) → c.look.result
     ≡ entry (piece_at c.args.self.now.shape c.args.class c.loop-block.block) c.look.new.token.seen
 shown c =
     let is : c.self.inside.shape ≡ c.args.self.now.shape =

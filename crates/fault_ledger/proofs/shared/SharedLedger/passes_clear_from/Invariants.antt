@@ -1,6 +1,5 @@
 use Rattle.std.proofs.Common.{◌≡◌}
-use Rattle.fault_ledger.specs.Settled.{AreClear}
-use Rattle.fault_ledger.specs.Seats.{Sees}
+use Rattle.fault_ledger.specs.{Settled.AreClear, Seats.Sees}
 use Rattle.fault_ledger.proofs.shared.SharedLedger.passes_clear_from.Given as goal
 
 abbrev pub invariant-loop-block : goal.invariant-loop-block

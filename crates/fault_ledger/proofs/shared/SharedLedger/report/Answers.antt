@@ -1,17 +1,13 @@
 use Rattle.std.proofs.Common.{◌≡◌, ℕ, ◌<◌, ◌%◌, ◌/◌, Some, None, false, ap, sym, ◌∙◌, subst}
 use Rattle.patterns.specs.Tests.{size_of}
-use Rattle.fault_ledger.specs.declared.Shape.{Shape}
-use Rattle.fault_ledger.specs.declared.Event.{Event}
-use Rattle.fault_ledger.specs.declared.Reply.TheVariants.{Done}
+use Rattle.fault_ledger.specs.declared.{Shape.Shape, Event.Event, Reply.TheVariants.Done}
 use Rattle.fault_ledger.specs.History.{block_count, block_of, held_by, piece_count}
-use Rattle.fault_ledger.specs.Answer.{fits_size}
-use Rattle.fault_ledger.specs.Seats.{IsSitter, Place, Sitter, class_and_block}
-use Rattle.fault_ledger.proofs.PieceNumbers.{block_of-below, some_class}
+use Rattle.fault_ledger.specs.{Answer.fits_size, Seats.{IsSitter, Place, Sitter, class_and_block}}
+use Rattle.fault_ledger.proofs.{PieceNumbers.{block_of-below, some_class}, SeatSteps.untold}
 use Rattle.fault_ledger.proofs.SeatSteps.{reported_badly, reported_free, seated_makes, seated_piece}
-use Rattle.fault_ledger.proofs.SeatSteps.{untold}
-use Rattle.fault_ledger.proofs.shared.SharedLedger.report.Goals as goal
 use Rattle.fault_ledger.proofs.shared.SharedLedger.report.Goals.{In-Some}
 use Rattle.fault_ledger.proofs.shared.SharedLedger.report.Goals.{After-class_and_block-class}
+use Rattle.fault_ledger.proofs.shared.SharedLedger.report.Goals as goal
 
 -- the piece is one of the ledger's
 within : (c : In-Some) → c.in-Some.piece < piece_count c.args.self.now.shape

@@ -1,16 +1,13 @@
 use Rattle.std.proofs.Common.{◌≡◌, ◌≤◌, None, sym, ap, ◌∙◌, subst, arith}
 use Rattle.patterns.specs.Tests.{max_pieces}
 use Rattle.fault_ledger.specs.declared.PieceState.TheVariants as state
-use Rattle.fault_ledger.specs.History.{entry, piece_at, block_count}
-use Rattle.fault_ledger.specs.Answer.{IsLegal}
-use Rattle.fault_ledger.specs.Face.{shape_fault}
-use Rattle.fault_ledger.specs.Seats.{Place, EndsClear}
-use Rattle.fault_ledger.proofs.ShapeLimits.{few_blocks}
-use Rattle.fault_ledger.proofs.LegalHistories.{legal_hit}
+use Rattle.fault_ledger.specs.{History.{entry, piece_at, block_count}, Answer.IsLegal}
+use Rattle.fault_ledger.specs.{Face.shape_fault, Seats.{Place, EndsClear}}
+use Rattle.fault_ledger.proofs.{ShapeLimits.few_blocks, LegalHistories.legal_hit}
 use Rattle.fault_ledger.proofs.ClassStatus.{status-hit, status-open, status-none}
 use Rattle.fault_ledger.proofs.ClassLooks.{skipped_not_first}
-use Rattle.fault_ledger.proofs.shared.SharedLedger.status.Goals as goal
 use Rattle.fault_ledger.proofs.shared.SharedLedger.status.Goals.{After-passes_clear-head}
+use Rattle.fault_ledger.proofs.shared.SharedLedger.status.Goals as goal
 
 -- the end of the clear blocks of the class
 head : (c : After-passes_clear-head)

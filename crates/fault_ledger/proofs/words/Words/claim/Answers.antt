@@ -1,6 +1,5 @@
 use Rattle.std.proofs.Common.{arith}
-use Rattle.fault_ledger.proofs.TokenAsSeat.{taken}
-use Rattle.fault_ledger.proofs.TokenSteps.{claim_allowed}
+use Rattle.fault_ledger.proofs.{TokenAsSeat.taken, TokenSteps.claim_allowed}
 use Rattle.fault_ledger.proofs.words.Words.claim.Goals as goal
 
 pub fetch_add-piece-requires : goal.fetch_add-piece-requires

@@ -1,9 +1,6 @@
 use Rattle.std.proofs.Common.{◌≡◌, ◌<◌, true, sym, subst, arith}
-use Rattle.fault_ledger.specs.History.{piece_count}
-use Rattle.fault_ledger.specs.Answer.{has_earlier_hit}
-use Rattle.fault_ledger.specs.Seats.{Place}
-use Rattle.fault_ledger.proofs.TokenAsSeat.{taken}
-use Rattle.fault_ledger.proofs.TokenSteps.{drop_allowed, drop_done}
+use Rattle.fault_ledger.specs.{History.piece_count, Answer.has_earlier_hit, Seats.Place}
+use Rattle.fault_ledger.proofs.{TokenAsSeat.taken, TokenSteps.{drop_allowed, drop_done}}
 use Rattle.fault_ledger.proofs.words.Words.drop_piece.Goals as goal
 
 pub fetch_add-requires : goal.fetch_add-requires

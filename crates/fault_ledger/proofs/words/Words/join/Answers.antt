@@ -1,9 +1,7 @@
 use Rattle.std.proofs.Common.{sym, ap, ◌∙◌, ℕ, arith}
 use Rattle.atomic_table.specs.Table.{Me}
-use Rattle.fault_ledger.specs.declared.words.View.{View}
-use Rattle.fault_ledger.proofs.JoinAndPart.{joins}
-use Rattle.fault_ledger.proofs.WordGroups.{group_place}
-use Rattle.fault_ledger.proofs.TokenAsSeat.{taken}
+use Rattle.fault_ledger.{specs.declared.words.View.View, proofs.JoinAndPart.joins}
+use Rattle.fault_ledger.proofs.{WordGroups.group_place, TokenAsSeat.taken}
 use Rattle.fault_ledger.proofs.words.Words.join.Goals as goal
 
 pub join_seat-requires : goal.join_seat-requires

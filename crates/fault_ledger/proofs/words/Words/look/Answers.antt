@@ -1,9 +1,6 @@
 use Rattle.std.proofs.Common.{◌<◌, ◌∙◌, sym, ap, subst, arith}
-use Rattle.fault_ledger.specs.History.{piece_count}
-use Rattle.fault_ledger.specs.Seats.{Place}
-use Rattle.fault_ledger.specs.Words.{state_at}
-use Rattle.fault_ledger.proofs.TokenAsSeat.{taken}
-use Rattle.fault_ledger.proofs.TokenSteps.{look_allowed, look_done}
+use Rattle.fault_ledger.specs.{History.piece_count, Seats.Place, Words.state_at}
+use Rattle.fault_ledger.proofs.{TokenAsSeat.taken, TokenSteps.{look_allowed, look_done}}
 use Rattle.fault_ledger.proofs.words.Words.look.Goals as goal
 
 pub load-word-requires : goal.load-word-requires
@@ -30,5 +27,4 @@ returns-clause-state c =
     c.state_at.ensures ∙ ap state_at c.field_of.ensures
     ∙ look_done t c.self.inside.table.shared.table_id.slots c.args.piece c.word_with.result
     c.load-word.result c.load-word.new.seat.me c.into_badge.result c.word_with.ensures
-    c.load-word.ensures.0 c.load-word.ensures.2 c.into_badge.ensures.0 c.into_badge.ensures.2
-    below
+    c.load-word.ensures.0 c.load-word.ensures.2 c.into_badge.ensures.0 c.into_badge.ensures.2 below

@@ -1,9 +1,7 @@
 use Rattle.std.proofs.Common.{ℕ, sym, ap, ◌∙◌, arith}
 use Rattle.atomic_table.specs.Table.{Me}
-use Rattle.fault_ledger.specs.declared.words.View.{View}
-use Rattle.fault_ledger.proofs.JoinAndPart.{splits, joins}
-use Rattle.fault_ledger.proofs.TokenAsSeat.{taken}
-use Rattle.fault_ledger.proofs.JoinedLooks.{both_allowed}
+use Rattle.fault_ledger.{specs.declared.words.View.View, proofs.JoinAndPart.{splits, joins}}
+use Rattle.fault_ledger.proofs.{TokenAsSeat.taken, JoinedLooks.both_allowed}
 use Rattle.fault_ledger.proofs.words.Words.meet.Goals as goal
 
 pub join_seat-requires : goal.join_seat-requires

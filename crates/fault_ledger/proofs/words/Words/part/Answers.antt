@@ -1,6 +1,5 @@
 use Rattle.std.proofs.Common.{arith}
-use Rattle.fault_ledger.proofs.JoinAndPart.{splits}
-use Rattle.fault_ledger.proofs.WordGroups.{group_place}
+use Rattle.fault_ledger.proofs.{JoinAndPart.splits, WordGroups.group_place}
 use Rattle.fault_ledger.proofs.words.Words.part.Goals as goal
 
 pub split_seat-others-requires : goal.split_seat-others-requires

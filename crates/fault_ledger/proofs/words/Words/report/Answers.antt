@@ -1,10 +1,7 @@
 use Rattle.std.proofs.Common.{◌≡◌, ◌<◌, true, sym, ap, ◌∙◌, subst, arith}
 use Rattle.patterns.specs.Tests.{size_of}
-use Rattle.fault_ledger.specs.History.{piece_count, block_of}
-use Rattle.fault_ledger.specs.Answer.{fits_size}
-use Rattle.fault_ledger.specs.Seats.{Place}
-use Rattle.fault_ledger.specs.Words.{in_field}
-use Rattle.fault_ledger.proofs.TokenAsSeat.{taken}
+use Rattle.fault_ledger.specs.{History.{piece_count, block_of}, Answer.fits_size, Seats.Place}
+use Rattle.fault_ledger.{specs.Words.in_field, proofs.TokenAsSeat.taken}
 use Rattle.fault_ledger.proofs.TokenSteps.{report_allowed, report_done}
 use Rattle.fault_ledger.proofs.words.Words.report.Goals as goal
 
@@ -24,8 +21,7 @@ fetch_add-requires c =
       omega arith,
       report_allowed t c.self.inside.table.shared.table_id.slots seat.id
           c.args.piece c.word_with.result c.in_field.result c.args.outcome c.requires.held below
-          fits
-          place (c.in_field.ensures ∙ ap (in_field c.args.piece) c.code_of.ensures),
+          fits place (c.in_field.ensures ∙ ap (in_field c.args.piece) c.code_of.ensures),
     )
 
 pub returns : goal.returns

@@ -1,7 +1,5 @@
-use Rattle.std.proofs.Common.{◌<◌, length, arith, subst, sym}
-use Rattle.std.specs.Prelude.{flat_map}
-use Rattle.fault_model.specs.Fault.{both}
-use Rattle.fault_model.proofs.FaultTables.{half_within, line_read}
+use Rattle.std.{proofs.Common.{◌<◌, length, arith, subst, sym}, specs.Prelude.flat_map}
+use Rattle.fault_model.{specs.Fault.both, proofs.FaultTables.{half_within, line_read}}
 use Rattle.fault_model.proofs.faults.Faults.line_of.Goals as goal
 
 pub index-requires : goal.index-requires

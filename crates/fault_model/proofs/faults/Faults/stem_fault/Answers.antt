@@ -1,18 +1,14 @@
 use Rattle.std.proofs.Common.{◌≡◌, ◌<◌, Bool, List, length, arith, ℕ, subst, sym}
 use Rattle.std.specs.Prelude.{Contains, Some, flat_map, slice_get}
-use Rattle.fault_model.specs.declared.Line.{Line}
+use Rattle.fault_model.specs.{declared.Line.Line, declared.Model.Model, Fault.{FaultList, both}}
+use Rattle.fault_model.{proofs.ListedFaults.{fault_on, stem_listed}, specs.Signals.IsSignalOf}
+use Rattle.fault_model.specs.Lines.{AreStemsOf, IsWithinLimits}
+use Rattle.fault_model.proofs.FaultTables.{StemAt, stem_at, stem_within, stem_read}
+use Rattle.fault_model.proofs.FaultTables.{stem_place_within, stem_at_zero, stem_at_one}
+use Rattle.fault_model.proofs.faults.Faults.stem_fault.Goals.{After-index}
 use Rattle.fault_model.specs.declared.Line.TheVariants as line
-use Rattle.fault_model.specs.declared.Model.{Model}
 use Rattle.bench_net.specs.Scan.{names}
 use Rattle.list_lemmas.proofs.Places.{within_place}
-use Rattle.fault_model.proofs.ListedFaults.{fault_on, stem_listed}
-use Rattle.fault_model.specs.Fault.{FaultList, both}
-use Rattle.fault_model.specs.Lines.{AreStemsOf, IsWithinLimits}
-use Rattle.fault_model.specs.Signals.{IsSignalOf}
-use Rattle.fault_model.proofs.FaultTables.{StemAt, stem_at, stem_within, stem_read}
-use Rattle.fault_model.proofs.FaultTables.{stem_place_within}
-use Rattle.fault_model.proofs.FaultTables.{stem_at_zero, stem_at_one}
-use Rattle.fault_model.proofs.faults.Faults.stem_fault.Goals.{After-index}
 use Rattle.fault_model.proofs.faults.Faults.stem_fault.Goals as goal
 
 -- the list has the faults on the stem of a signal

@@ -1,7 +1,5 @@
-use Rattle.std.proofs.Common.{◌<◌, length, subst, sym}
-use Rattle.std.specs.Prelude.{flat_map}
-use Rattle.fault_model.specs.Fault.{both}
-use Rattle.fault_model.proofs.FaultTables.{stuck_read}
+use Rattle.std.{proofs.Common.{◌<◌, length, subst, sym}, specs.Prelude.flat_map}
+use Rattle.fault_model.{specs.Fault.both, proofs.FaultTables.stuck_read}
 use Rattle.fault_model.proofs.faults.Faults.stuck_of.Goals as goal
 
 pub returns : goal.returns

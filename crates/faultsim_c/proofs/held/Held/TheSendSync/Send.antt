@@ -2,20 +2,15 @@
 -- to free their box.
 use mir.Raw.{raw}
 use base.Shift.{Keyless}
-use denote.Memory.{lone}
-use denote.RawPtr.{Ptr}
-use denote.Struct.Struct.{exits_of}
-use denote.Struct.Owning.{shape, fields, to}
+use denote.{Memory.lone, RawPtr.Ptr, Struct.Struct.exits_of, Struct.Owning.{shape, fields, to}}
 use denote.Param.Send.{IsSend, AllSend, owning_send, struct_send, sendable}
-use Rattle.std.specs.Prelude.{Option, Some, None}
+use Rattle.std.specs.{Prelude.{Option, Some, None}, Global.Global}
 use Rattle.std.proofs.Crossing as heap
 use Rattle.std_alloc.proofs.SendSync.{quiet, lies}
-use Rattle.std.specs.Global.{Global}
 use Rattle.std_heap.proofs.Global.TheSendSync as allocator
-use Rattle.faultsim_c.specs.Held.{Value, held_by}
-use Rattle.faultsim_c.specs.contracts.holding.Holding as holding
+use Rattle.faultsim_c.specs.{Held.{Value, held_by}, contracts.held.Held.{the_row, the_type}}
 use Rattle.faultsim_c.proofs.holding.Holding.TheSendSync.{the_send as holding_crosses}
-use Rattle.faultsim_c.specs.contracts.held.Held.{the_row, the_type}
+use Rattle.faultsim_c.specs.contracts.holding.Holding as holding
 
 held_crosses : (a : Global) (p : Ptr) (held : Option Value) → Keyless (held_by a p held)
 held_crosses a p (Some v) = (

@@ -1,26 +1,21 @@
 -- `of` moves the pointer and the allocator, and what they own goes with them.
-use Rattle.std.proofs.Common.{List, [], ◌∷◌, ◌++◌, refl}
-use Rattle.std.specs.Prelude.{Some}
+use Rattle.std.{proofs.Common.{List, [], ◌∷◌, ◌++◌, refl}, specs.Prelude.Some}
+use Rattle.std.proofs.raw_atomic.Walks.{proved_at}
 use mir.Val.{Val}
-use base.Fml.{ftrue, fsep}
-use base.Logic.{emp, id⊢}
+use base.{Fml.{ftrue, fsep}, Logic.{emp, id⊢}}
 use prog.Wp.{WpFn}
 use types.Kit.{‵, raw, ◌⊛◌, prop, ◌$◌, ◌∵◌, !, qed, move, drop, use1, join, split, fsplit, fjoin}
-use types.Kit.{regoal, suffices, done}
-use types.Part.{whole, sub, agg}
+use types.{Kit.{regoal, suffices, done}, Part.{whole, sub, agg}}
 use types.Run.{of_opd, stop, fld, no_more, and_then, returns, enter}
 use types.ByLocal.{alloc_all, pass_all, free_all, look_at, get, get_in, sets}
 use contract.Running.{tables}
-use denote.Exit.{yes}
-use denote.Struct.Owning.{row}
-use denote.Steps.{nothing}
+use denote.{Exit.yes, Struct.Owning.row, Steps.nothing}
 use denote.Triple.Walked.{says, Stays, stay_dropped, walk_of, ends_at, Goes-dropped}
-use Rattle.std.proofs.raw_atomic.Walks.{proved_at}
 use Rattle.faultsim_c.proofs.Boxed.{heap_of_c, taken_holding, taken_type}
 use Rattle.faultsim_c.proofs.Pointed.{word, word_typed, pointer_typed, fields_out, fields_in}
+use Rattle.faultsim_c.proofs.held.Held.of.Statement.{statement}
 use Rattle.faultsim_c.specs.contracts.held.Held as held
 use Rattle.faultsim_c.specs.contracts.held.Held.of as f
-use Rattle.faultsim_c.proofs.held.Held.of.Statement.{statement}
 use Rattle.faultsim_c.proofs.held.Held.of.Code as code
 
 abbrev stayed : Stays (f.ended).signature.params (f.ended).kept
@@ -45,11 +40,9 @@ of_spec 𝓤 𝓛 𝓜 𝓡 wired =
     sets ! (of_opd ! (get_in ! (fld ! refl (stop !)) (sub ! 1 refl (whole !)))) refl fits $
     sets ! (of_opd ! (get ! refl)) refl (pointer_typed p) $
     sets ! (agg ! (and_then ! (get ! refl) (and_then ! (get ! refl) (no_more !)))) refl
-    (word_typed Z p hv fits) $
-    returns ! (look_at ! 0 refl) $ free_all ! refl $
+    (word_typed Z p hv fits) $ returns ! (look_at ! 0 refl) $ free_all ! refl $
     -- [the allocator; the box's memory; what was owned beside; the empty `requires`]
     fields_in Z ! p a $ fjoin ! $ use1 𝓛 (‵ ((held.the_row).own_val made (word p hv
-    ∷ []))) (id⊢ 𝓤 _) $
-    move ! (1 ∷ 2 ∷ []) $ drop ! $ drop ! $
+    ∷ []))) (id⊢ 𝓤 _) $ move ! (1 ∷ 2 ∷ []) $ drop ! $ drop ! $
     suffices ! _ (ends_at 𝓛 f.ended stayed c y (word p hv) made (tt, tt) (tt, tt)) $ says ! refl $
     nothing ! $ nothing ! $ fjoin ! $ join ! $ nothing ! $ join ! $ done !)))

@@ -1,28 +1,21 @@
 -- `open` moves the pointer and the allocator. If it holds something, they own its box.
-use Rattle.std.proofs.Common.{◌≡◌, List, [], ◌∷◌, ◌++◌, refl}
-use Rattle.std.specs.Prelude.{Option, Some}
+use Rattle.std.{proofs.Common.{◌≡◌, List, [], ◌∷◌, ◌++◌, refl}, specs.Prelude.{Option, Some}}
+use Rattle.std.proofs.raw_atomic.Walks.{proved_at}
 use mir.Val.{Val}
-use base.Fml.{ftrue, fsep}
-use base.Logic.{id⊢}
-use contract.Monad.{fact}
+use base.{Fml.{ftrue, fsep}, Logic.id⊢}
+use contract.{Monad.fact, Running.tables}
 use prog.Wp.{WpFn}
 use types.Kit.{‵, raw, ◌⊛◌, prop, ◌$◌, ◌∵◌, !, qed, move, drop, use1, join, split, fsplit, fjoin}
-use types.Kit.{rewrite, regoal, suffices, done}
-use types.Part.{whole, sub, agg}
+use types.{Kit.{rewrite, regoal, suffices, done}, Part.{whole, sub, agg}}
 use types.Run.{of_opd, stop, fld, no_more, and_then, returns, enter}
 use types.ByLocal.{alloc_all, pass_all, free_all, look_at, get, get_in, sets}
-use contract.Running.{tables}
-use denote.Exit.{yes}
-use denote.Struct.Owning.{row}
-use denote.Steps.{heard, nothing}
+use denote.{Exit.yes, Struct.Owning.row, Steps.{heard, nothing}}
 use denote.Triple.Walked.{says, Stays, stay_dropped, walk_of, ends_at, Goes-dropped}
-use Rattle.std.proofs.raw_atomic.Walks.{proved_at}
-use Rattle.faultsim_c.specs.Held.{Value, held_by}
+use Rattle.faultsim_c.{specs.Held.{Value, held_by}, proofs.held.Held.«open».Statement.statement}
 use Rattle.faultsim_c.proofs.Boxed.{heap_of_c, held_handle, taken_type}
 use Rattle.faultsim_c.proofs.Pointed.{word, word_typed, pointer_typed, fields_out, fields_in}
 use Rattle.faultsim_c.specs.contracts.held.Held as held
 use Rattle.faultsim_c.specs.contracts.held.Held.«open» as f
-use Rattle.faultsim_c.proofs.held.Held.«open».Statement.{statement}
 use Rattle.faultsim_c.proofs.held.Held.«open».Code as code
 
 abbrev stayed : Stays (f.ended).signature.params (f.ended).kept
@@ -51,11 +44,9 @@ open_spec 𝓤 𝓛 𝓜 𝓡 wired =
     sets ! (of_opd ! (get_in ! (fld ! refl (stop !)) (sub ! 1 refl (whole !)))) refl fits $
     sets ! (of_opd ! (get ! refl)) refl (pointer_typed p) $
     sets ! (agg ! (and_then ! (get ! refl) (and_then ! (get ! refl) (no_more !)))) refl
-    (word_typed Z p hv fits) $
-    returns ! (look_at ! 0 refl) $ free_all ! refl $
+    (word_typed Z p hv fits) $ returns ! (look_at ! 0 refl) $ free_all ! refl $
     -- [the allocator; the box's memory; what was owned beside]
     fields_in Z ! p a $ fjoin ! $ use1 𝓛 (‵ (To.own_val made (word p hv ∷ []))) (id⊢ 𝓤 _) $
     move ! (1 ∷ []) $ drop ! $
     suffices ! _ (ends_at 𝓛 f.ended stayed c y (word p hv) made (tt, tt) (tt, tt)) $
-    says ! held_is.1 $
-    nothing ! $ nothing ! $ fjoin ! $ join ! $ nothing ! $ join ! $ done !))))
+    says ! held_is.1 $ nothing ! $ nothing ! $ fjoin ! $ join ! $ nothing ! $ join ! $ done !))))

@@ -3,8 +3,7 @@ use Rattle.std.proofs.lemmas.Result.{err_from_is_err_and}
 use Rattle.bench_net.specs.Scan.{sources}
 use Rattle.patterns.specs.Making.{IsWordsRefusal}
 use Rattle.patterns.specs.declared.WordsFault.TheVariants as words
-use Rattle.faultsim_c.specs.Statuses.{AreTooMany}
-use Rattle.faultsim_c.proofs.Replies.{words_or_many}
+use Rattle.faultsim_c.{specs.Statuses.AreTooMany, proofs.Replies.words_or_many}
 use Rattle.faultsim_c.proofs.session.Session.next_words.Goals as goal
 
 pub returns-in_err-new-clause-refused : goal.returns-in_err-new-clause-refused

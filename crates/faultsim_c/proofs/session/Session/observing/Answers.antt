@@ -1,6 +1,5 @@
 use Rattle.std.proofs.Common.{rules, ◌≡◌, subst}
-use Rattle.block_sim.specs.Flips.{AreObserving}
-use Rattle.block_sim.specs.Parts.{Parts}
+use Rattle.block_sim.specs.{Flips.AreObserving, Parts.Parts}
 use Rattle.faultsim_c.proofs.session.Session.observing.Goals as goal
 
 pub returns-clause-lanes : goal.returns-clause-lanes

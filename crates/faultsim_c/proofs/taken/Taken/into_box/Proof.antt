@@ -1,43 +1,27 @@
 -- `into_box` has the box made of the pointer and the allocator, with all that they own.
-use Rattle.std.proofs.Common.{◌≡◌, List, [], ◌∷◌, ◌++◌, refl}
-use mir.Syntax.{Args, a_type, dcons, dnil}
-use mir.MapTy.{inst_fn}
-use mir.Val.{Val}
-use base.Fml.{ftrue, fsep, flft}
-use base.Logic.{id⊢}
-use contract.BorrowLft.{◌⊑◌}
-use contract.Monad.{fact}
-use contract.Running.{tables}
+use Rattle.std.proofs.{Common.{◌≡◌, List, [], ◌∷◌, ◌++◌, refl}, VecSteps.Shapes.after}
+use Rattle.std.proofs.{alloc.Calls.{Al, Goes-blank}, raw_atomic.Walks.proved_at}
+use Rattle.std.proofs.boxed.Box.from_raw.Met.{met}
+use mir.{Syntax.{Args, a_type, dcons, dnil}, MapTy.inst_fn, Val.Val}
+use base.{Fml.{ftrue, fsep, flft}, Logic.id⊢}
+use contract.{BorrowLft.◌⊑◌, Monad.fact, Running.tables}
 use prog.Wp.{WpFn}
 use types.Kit.{Item, at_ret, ‵, raw, ◌⊛◌, some, later, prop, ◌$◌, ◌∵◌, !, qed, move, drop, use1}
 use types.Kit.{join, split, split3, fsplit, fjoin, feq_i, pick, regoal, suffices, await, done}
 use types.Part.{whole, sub}
 use types.Run.{of_opd, stop, fld, no_more, and_then, first, blocks, exec, returns, enter}
 use types.ByLocal.{alloc_all, pass_all, free_all, look_at, get, get_in, sets, lands_last, env}
-use denote.Exit.{no}
-use denote.Laws.{Is, shows}
-use denote.Param.{param, bounded}
-use denote.Param.Laws.{param_laws}
-use denote.RattleType.{RattleType}
-use denote.RawPtr.{rawptr_vals}
-use denote.Signature.{Slot, plain}
-use denote.Steps.{heard, nothing, peeks}
-use denote.Triple.Call.{calls_at_last}
-use denote.Triple.Clauses.{Lasts, lasts}
-use denote.Triple.Spec.{triple_of}
-use denote.Triple.Table.{framed}
-use denote.Triple.Walked.{says, Stays, stay_dropped, walk_of, ends_at}
-use Rattle.std.proofs.VecSteps.Shapes.{after}
-use Rattle.std.proofs.alloc.Calls.{Al, Goes-blank}
-use Rattle.std.proofs.raw_atomic.Walks.{proved_at}
+use denote.{Exit.no, Laws.{Is, shows}, Param.{param, bounded}, Param.Laws.param_laws}
+use denote.{RattleType.RattleType, RawPtr.rawptr_vals, Signature.{Slot, plain}, Triple.Table.framed}
+use denote.{Steps.{heard, nothing, peeks}, Triple.Call.calls_at_last, Triple.Clauses.{Lasts, lasts}}
+use denote.Triple.{Spec.triple_of, Walked.{says, Stays, stay_dropped, walk_of, ends_at}}
 use Rattle.std.specs.contracts.boxed.Box as boxed
 use Rattle.std.proofs.boxed.Box.TheLaws as boxed_laws
 use Rattle.std.specs.contracts.boxed.Box.from_raw as g
-use Rattle.std.proofs.boxed.Box.from_raw.Met.{met}
 use Rattle.faultsim_c.proofs.Pointed.{word_typed, pointer_typed, fields_out}
+use Rattle.faultsim_c.proofs.taken.Taken.into_box.Statement.{statement}
 use Rattle.faultsim_c.specs.contracts.taken.Taken as taken
 use Rattle.faultsim_c.specs.contracts.taken.Taken.into_box as f
-use Rattle.faultsim_c.proofs.taken.Taken.into_box.Statement.{statement}
 use Rattle.faultsim_c.proofs.taken.Taken.into_box.Code as code
 
 pub into_box_spec : {M : Type 1} → statement M
@@ -76,21 +60,14 @@ into_box_spec 𝓤 𝓛 𝓜 𝓡 wired X Y LX LY gs d dd is_allocator drops_y =
     move ! (2 ∷ 0 ∷ []) $ join ! $ join ! $ use1 𝓛 (raw (G.pre z)) (id⊢ 𝓤 _) $
     calls_at_last ! (framed 𝓤 𝓛.H 𝓜 𝓣) G (met 𝓤 𝓛 𝓜 𝓡
     (code.calls-std_alloc::boxed::Box::from_raw 𝓡.env wired) X Y LX LY gs d dd is_allocator
-    drops_y) z
-    (and_then ! (get ! refl) (and_then ! (get ! refl) (no_more !))) (λ u.
+    drops_y) z (and_then ! (get ! refl) (and_then ! (get ! refl) (no_more !))) (λ u.
     use1 𝓛 (later (some (λ (r : B.Denot). (tokens ⊛ ‵ (B.own_val r (u ∷ []))) ⊛
     some (λ (ws : Lasts (g.ended X Y gs d dd) κs (
       a,
-      (
-        p,
-        tt,
-      ),
+      (p, tt),
     )). ‵ (lasts (g.ended X Y gs d dd) κs (
       a,
-      (
-        p,
-        tt,
-      ),
+      (p, tt),
     ) ws) ⊛ (raw (fact 𝓤 (r.value ≡ t.value)) ⊛ raw (fact 𝓤 (r.alloc ≡ a))))))) (id⊢ 𝓤 _) $
     await ! tt $ pick ! (λ r. split ! $ move ! (1 ∷ []) $ pick ! (λ ws. split3 ! $ drop ! $
     heard ! (r.value ≡ t.value) (λ same. drop ! $

@@ -1,43 +1,27 @@
 -- `of` has the box turned into its pointer and its allocator, which own what it owned.
-use Rattle.std.proofs.Common.{◌≡◌, List, [], ◌∷◌, ◌++◌, refl, sym, ap}
-use mir.Syntax.{Args, a_type, dcons, dnil}
-use mir.MapTy.{inst_fn}
-use mir.Val.{Val}
-use base.Fml.{ftrue, fsep, flft}
-use base.Logic.{id⊢}
-use contract.BorrowLft.{◌⊑◌}
-use contract.Monad.{fact}
-use contract.Running.{tables}
+use Rattle.std.proofs.{Common.{◌≡◌, List, [], ◌∷◌, ◌++◌, refl, sym, ap}, raw_atomic.Walks.proved_at}
+use Rattle.std.{proofs.alloc.Calls.{Al, handle_tells, Goes-blank}, specs.Box.Ownership.box_owns}
+use Rattle.std.proofs.boxed.Box.into_raw_with_allocator.Met.{met}
+use mir.{Syntax.{Args, a_type, dcons, dnil}, MapTy.inst_fn, Val.Val}
+use base.{Fml.{ftrue, fsep, flft}, Logic.id⊢}
+use contract.{BorrowLft.◌⊑◌, Monad.fact, Running.tables}
 use prog.Wp.{WpFn}
 use types.Kit.{Item, ‵, raw, ◌⊛◌, some, later, prop, ◌$◌, ◌∵◌, !, qed, move, drop, use1, join}
 use types.Kit.{split, fsplit, fjoin, pick, rewrite, regoal, suffices, await, done}
-use types.Part.{whole, sub, agg}
-use types.Run.{of_opd, stop, fld, no_more, and_then, returns, enter}
+use types.{Part.{whole, sub, agg}, Run.{of_opd, stop, fld, no_more, and_then, returns, enter}}
 use types.ByLocal.{alloc_all, pass_all, free_all, look_at, get, get_in, sets, lands_as}
-use denote.Exit.{no}
-use denote.Param.{param, bounded}
-use denote.Param.Laws.{param_laws}
-use denote.RattleType.{RattleType}
-use denote.RawPtr.{Ptr, RawPtr}
-use denote.Signature.{Slot, plain}
-use denote.Steps.{heard, nothing, only}
-use denote.Struct.Tuple.{Tuple}
-use denote.Triple.Call.{calls_at}
-use denote.Triple.Clauses.{Lasts, lasts}
-use denote.Triple.Spec.{triple_of}
-use denote.Triple.Table.{framed}
+use denote.{Exit.no, Param.{param, bounded}, Param.Laws.param_laws, RattleType.RattleType}
+use denote.{RawPtr.{Ptr, RawPtr}, Signature.{Slot, plain}, Steps.{heard, nothing, only}}
+use denote.{Struct.Tuple.Tuple, Triple.Call.calls_at, Triple.Clauses.{Lasts, lasts}}
+use denote.Triple.{Spec.triple_of, Table.framed}
 use denote.Triple.Walked.{says, Stays, stay_dropped, walk_of, ends_at}
-use Rattle.std.proofs.alloc.Calls.{Al, handle_tells, Goes-blank}
-use Rattle.std.proofs.raw_atomic.Walks.{proved_at}
-use Rattle.std.specs.Box.Ownership.{box_owns}
 use Rattle.std.specs.contracts.boxed.Box as boxed
 use Rattle.std.proofs.boxed.Box.TheLaws as boxed_laws
 use Rattle.std.specs.contracts.boxed.Box.into_raw_with_allocator as g
-use Rattle.std.proofs.boxed.Box.into_raw_with_allocator.Met.{met}
 use Rattle.faultsim_c.proofs.Pointed.{word, word_typed, pointer_typed, fields_out, fields_in}
+use Rattle.faultsim_c.proofs.taken.Taken.of.Statement.{statement}
 use Rattle.faultsim_c.specs.contracts.taken.Taken as taken
 use Rattle.faultsim_c.specs.contracts.taken.Taken.of as f
-use Rattle.faultsim_c.proofs.taken.Taken.of.Statement.{statement}
 use Rattle.faultsim_c.proofs.taken.Taken.of.Code as code
 
 pub of_spec : {M : Type 1} → statement M
@@ -47,19 +31,14 @@ of_spec 𝓤 𝓛 𝓜 𝓡 wired X Y LX LY gs d dd dx is_allocator drops_y drop
     let B : RattleType = boxed.the_row R P gs in let To : RattleType = taken.the_row R P gs in
     let whole_box : Al = record {
       row = B;
-      laws = boxed_laws.the_row_laws R P gs
-          (param_laws 0 X LX) (param_laws 1 Y LY);
+      laws = boxed_laws.the_row_laws R P gs (param_laws 0 X LX) (param_laws 1 Y LY);
       g = record { dealloc_token = λ a σ p. ftrue };
-      d =
-          d;
+      d = d;
       drops = dd;
     } in
     let args : Args = bounded (a_type ∷ a_type ∷ []) (
       X,
-      (
-        Y,
-        tt,
-      ),
+      (Y, tt),
     ) (dcons d (dcons dd (dcons dx dnil))) in
     let En = f.ended X Y gs d dd dx in let c = f.clauses X Y gs d dd dx 𝓛 𝓜.mem 𝓡.returns in
     let From : Slot 2 = plain (λ _. B) in
@@ -79,11 +58,9 @@ of_spec 𝓤 𝓛 𝓜 𝓡 wired X Y LX LY gs d dd dx is_allocator drops_y drop
     fjoin ! $ move ! (1 ∷ 0 ∷ []) $ join ! $ join ! $ use1 𝓛 (raw (G.pre z)) (id⊢ 𝓤 _) $
     regoal ! (λ (us : List Val). prop (WpFn 𝓤 𝓛.H 𝓣.C 𝓣.Λ fn (us ++ []) (W.post y))) one refl $
     enter ! _ _ _ _ _ $ alloc_all ! (λ l. pass_all ! refl (typed, tt) $
-    sets ! (of_opd ! (get ! refl)) refl typed $
-    calls_at ! (framed 𝓤 𝓛.H 𝓜 𝓣) G (met 𝓤 𝓛 𝓜 𝓡
+    sets ! (of_opd ! (get ! refl)) refl typed $ calls_at ! (framed 𝓤 𝓛.H 𝓜 𝓣) G (met 𝓤 𝓛 𝓜 𝓡
     (code.calls-std_alloc::boxed::Box::into_raw_with_allocator 𝓡.env wired) X Y LX LY gs d dd
-    dx is_allocator drops_y drops_x) z
-    (and_then ! (get ! refl) (no_more !)) (λ u.
+    dx is_allocator drops_y drops_x) z (and_then ! (get ! refl) (no_more !)) (λ u.
     use1 𝓛 (later (some (λ (r : Ptr × Y.Denot). (tokens ⊛ ‵ ((Tuple (RawPtr ∷ P ∷ [])).own_val r (u
     ∷ []))) ⊛
     some (λ (ws : Lasts En κs y.0.3). ‵ (lasts En κs y.0.3 ws) ⊛ (raw (fact 𝓤 (r.1 ≡ v.alloc)) ⊛ ‵
@@ -101,8 +78,7 @@ of_spec 𝓤 𝓛 𝓜 𝓡 wired X Y LX LY gs d dd dx is_allocator drops_y drop
     sets ! (of_opd ! (get_in ! (fld ! refl (stop !)) (sub ! 1 refl (whole !)))) refl fits $
     sets ! (of_opd ! (get ! refl)) refl fits $
     sets ! (agg ! (and_then ! (get ! refl) (and_then ! (get ! refl) (no_more !)))) refl
-    (word_typed Z p hv fits) $
-    returns ! (look_at ! 0 refl) $ free_all ! refl $
+    (word_typed Z p hv fits) $ returns ! (look_at ! 0 refl) $ free_all ! refl $
     -- [the allocator; the box's memory; the tokens]
     fields_in Z ! p a $ fjoin ! $ use1 𝓛 (‵ (To.own_val made (word p hv ∷ []))) (id⊢ 𝓤 _) $
     suffices ! _ (ends_at 𝓛 En stayed c y (word p hv) made ((tt, (tt, tt)), tt) (tt, tt)) $

@@ -1,5 +1,4 @@
-use Rattle.std.proofs.Common.{◌∙◌, ap, sym}
-use Rattle.std.specs.Prelude.{Some}
+use Rattle.std.{proofs.Common.{◌∙◌, ap, sym}, specs.Prelude.Some}
 use Rattle.flat_circuit.proofs.Rows.{mapped_get}
 use Rattle.flat_circuit.proofs.block_view.GroupWords.of.Goals as goal
 

@@ -1,10 +1,7 @@
-use Rattle.std.proofs.Common.{◌<◌, length, refl, subst}
-use Rattle.std.specs.Prelude.{◌≤◌, ℕ}
-use Rattle.bench_net.specs.Scan.{names}
-use Rattle.bench_net.specs.Level.{HasLevel}
+use Rattle.std.{proofs.Common.{◌<◌, length, refl, subst}, specs.Prelude.{◌≤◌, ℕ}}
+use Rattle.bench_net.specs.{Scan.names, Level.HasLevel}
 use Rattle.fault_model.specs.Reordered.{in_order}
-use Rattle.flat_circuit.specs.Arranged.{IsArranged}
-use Rattle.flat_circuit.proofs.ArrangedSignals.{deep_there}
+use Rattle.flat_circuit.{specs.Arranged.IsArranged, proofs.ArrangedSignals.deep_there}
 use Rattle.flat_circuit.proofs.flat.FlatCircuit.depth.Goals as goal
 
 pub returns : goal.returns

@@ -2,8 +2,7 @@ use Rattle.std.proofs.Common.{◌≡◌, ◌<◌, ◌∙◌, arith, length, refl
 use Rattle.std.proofs.lemmas.Grind.{get_or_default_zero}
 use Rattle.bench_net.specs.Scan.{names}
 use Rattle.fault_model.specs.Reordered.{in_order, place}
-use Rattle.flat_circuit.specs.Arranged.{IsArranged}
-use Rattle.flat_circuit.proofs.ArrangedSignals.{within_there}
+use Rattle.flat_circuit.{specs.Arranged.IsArranged, proofs.ArrangedSignals.within_there}
 use Rattle.flat_circuit.proofs.flat.FlatCircuit.place_of.Goals as goal
 
 pub returns-clause-within : goal.returns-clause-within

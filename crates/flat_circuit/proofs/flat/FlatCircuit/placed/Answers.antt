@@ -1,12 +1,9 @@
 use Rattle.std.proofs.Common.{◌≡◌, ◌<◌, ◌∙◌, ◌++◌, ap, arith, length, refl, subst, sym, ℕ}
-use Rattle.std.specs.Prelude.{map, slice_index_or}
-use Rattle.std.proofs.lemmas.Option.{get_or_from_slice_get}
+use Rattle.std.{specs.Prelude.{map, slice_index_or}, proofs.lemmas.Option.get_or_from_slice_get}
 use Rattle.bench_net.specs.Scan.{names}
-use Rattle.list_lemmas.proofs.Members.{Among}
-use Rattle.list_lemmas.proofs.Places.{place_within, placed}
+use Rattle.list_lemmas.proofs.{Members.Among, Places.{place_within, placed}}
 use Rattle.fault_model.specs.Reordered.{in_order, place}
-use Rattle.flat_circuit.specs.Arranged.{IsArranged}
-use Rattle.flat_circuit.proofs.ArrangedSignals.{places_of_all}
+use Rattle.flat_circuit.{specs.Arranged.IsArranged, proofs.ArrangedSignals.places_of_all}
 use Rattle.flat_circuit.proofs.flat.FlatCircuit.placed.Goals as goal
 
 pub returns : goal.returns

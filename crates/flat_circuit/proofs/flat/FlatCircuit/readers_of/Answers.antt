@@ -1,9 +1,7 @@
-use Rattle.std.proofs.Common.{◌<◌, ap, sym, subst, length, arith}
-use Rattle.std.specs.Prelude.{slice_range}
+use Rattle.std.{proofs.Common.{◌<◌, ap, sym, subst, length, arith}, specs.Prelude.slice_range}
 use Rattle.bench_net.specs.Scan.{names}
 use Rattle.fault_model.specs.Reordered.{in_order}
-use Rattle.flat_circuit.specs.Flat.{AreReaders}
-use Rattle.flat_circuit.proofs.Flats.{row_of}
+use Rattle.flat_circuit.{specs.Flat.AreReaders, proofs.Flats.row_of}
 use Rattle.flat_circuit.proofs.flat.FlatCircuit.readers_of.Goals as goal
 
 pub offset_bounds-deref-row : goal.offset_bounds-deref-row
@@ -13,8 +11,7 @@ offset_bounds-deref-row c =
     let levels = ap (λ x. x.arranged) c.self.view_is in
     let row = row_of circuit own.lists.pins.items own.lists.readers.items own.lists.rows.items
     own.lists.standings.items c.args.signal c.index-row.result.now c.self.invariant.flat
-    (subst (λ x. c.args.signal < length (names x)) (sym levels) c.requires)
-    c.index-row.ensures in
+    (subst (λ x. c.args.signal < length (names x)) (sym levels) c.requires) c.index-row.ensures in
     omega (arith, row.readers_in.0, row.readers_in.1, c.deref.ensures.len)
 
 pub slice_bounds-result-count : goal.slice_bounds-result-count
@@ -24,8 +21,7 @@ slice_bounds-result-count c =
     let levels = ap (λ x. x.arranged) c.self.view_is in
     let row = row_of circuit own.lists.pins.items own.lists.readers.items own.lists.rows.items
     own.lists.standings.items c.args.signal c.index-row.result.now c.self.invariant.flat
-    (subst (λ x. c.args.signal < length (names x)) (sym levels) c.requires)
-    c.index-row.ensures in
+    (subst (λ x. c.args.signal < length (names x)) (sym levels) c.requires) c.index-row.ensures in
     row.readers_in.0
 
 pub slice_bounds-result-start : goal.slice_bounds-result-start
@@ -35,8 +31,7 @@ slice_bounds-result-start c =
     let levels = ap (λ x. x.arranged) c.self.view_is in
     let row = row_of circuit own.lists.pins.items own.lists.readers.items own.lists.rows.items
     own.lists.standings.items c.args.signal c.index-row.result.now c.self.invariant.flat
-    (subst (λ x. c.args.signal < length (names x)) (sym levels) c.requires)
-    c.index-row.ensures in
+    (subst (λ x. c.args.signal < length (names x)) (sym levels) c.requires) c.index-row.ensures in
     row.readers_in.0
 
 pub slice_bounds-result-end : goal.slice_bounds-result-end
@@ -46,8 +41,7 @@ slice_bounds-result-end c =
     let levels = ap (λ x. x.arranged) c.self.view_is in
     let row = row_of circuit own.lists.pins.items own.lists.readers.items own.lists.rows.items
     own.lists.standings.items c.args.signal c.index-row.result.now c.self.invariant.flat
-    (subst (λ x. c.args.signal < length (names x)) (sym levels) c.requires)
-    c.index-row.ensures in
+    (subst (λ x. c.args.signal < length (names x)) (sym levels) c.requires) c.index-row.ensures in
     omega (arith, row.readers_in.1, ap length c.deref.ensures.value)
 
 pub returns : goal.returns
@@ -57,11 +51,9 @@ returns c =
     let levels = ap (λ x. x.arranged) c.self.view_is in
     let row = row_of circuit own.lists.pins.items own.lists.readers.items own.lists.rows.items
     own.lists.standings.items c.args.signal c.index-row.result.now c.self.invariant.flat
-    (subst (λ x. c.args.signal < length (names x)) (sym levels) c.requires)
-    c.index-row.ensures in
+    (subst (λ x. c.args.signal < length (names x)) (sym levels) c.requires) c.index-row.ensures in
     subst (λ x. AreReaders x c.args.signal
     (slice_range c.deref.result.now c.index-row.result.now.readers_start
-    c.index-row.result.now.readers_end)) levels
-    (subst (λ l. AreReaders circuit c.args.signal
+    c.index-row.result.now.readers_end)) levels (subst (λ l. AreReaders circuit c.args.signal
     (slice_range l c.index-row.result.now.readers_start c.index-row.result.now.readers_end))
     (sym c.deref.ensures.value) row.read_by)

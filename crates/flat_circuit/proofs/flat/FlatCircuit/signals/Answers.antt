@@ -1,9 +1,7 @@
 use Rattle.std.proofs.Common.{◌∙◌, ap, length, refl, subst, sym}
-use Rattle.bench_net.specs.Scan.{names}
-use Rattle.bench_net.specs.Circuit.{IsCircuit}
+use Rattle.bench_net.specs.{Scan.names, Circuit.IsCircuit}
 use Rattle.fault_model.specs.Reordered.{in_order}
-use Rattle.flat_circuit.specs.Arranged.{IsArranged}
-use Rattle.flat_circuit.specs.Readers.{IsRising}
+use Rattle.flat_circuit.specs.{Arranged.IsArranged, Readers.IsRising}
 use Rattle.flat_circuit.proofs.ArrangedSignals.{count_there, rising_there}
 use Rattle.flat_circuit.proofs.ArrangedFaults.{circuit_there}
 use Rattle.flat_circuit.proofs.flat.FlatCircuit.signals.Goals as goal

@@ -3,8 +3,7 @@ use Rattle.std.specs.Prelude.{◌≢◌, ℕ, IfNone, IfSome, slice_get}
 use Rattle.std.proofs.lemmas.Grind.{get_or_default_zero}
 use Rattle.bench_net.specs.Scan.{name_of, names, sources}
 use Rattle.fault_model.specs.Reordered.{in_order, place}
-use Rattle.flat_circuit.specs.Arranged.{IsArranged}
-use Rattle.flat_circuit.proofs.FlowOrder.{flow_within}
+use Rattle.flat_circuit.{specs.Arranged.IsArranged, proofs.FlowOrder.flow_within}
 use Rattle.flat_circuit.proofs.ArrangedSignals.{at_order, count_there, signals_there, sources_there}
 use Rattle.flat_circuit.proofs.flat.FlatCircuit.source_of.Goals as goal
 

@@ -1,6 +1,4 @@
-use Rattle.std.proofs.Common.{◌∙◌, ap}
-use Rattle.std.proofs.Props.{props}
-use Rattle.std.proofs.Math.Logic.{∥∥₁_elim}
+use Rattle.std.proofs.{Common.{◌∙◌, ap}, Props.props, Math.Logic.∥∥₁_elim}
 use Rattle.hex.specs.Hex.{encode_lower}
 use Rattle.job_loading.proofs.SummedFiles.{summed_all}
 use Rattle.job_loading.proofs.sums.SummedFile.sum.Goals as goal

@@ -7,8 +7,7 @@ pub invariant_of-self-in-Some : goal.invariant_of-self-in-Some
 invariant_of-self-in-Some g c = record {
   known =
       let bytes = take c.in_ok-count.count c.read.new.buf in
-      let took : HasTaken c.args.self.now.hasher (Some c.update.new.self) bytes =
-      λ b q. (
+      let took : HasTaken c.args.self.now.hasher (Some c.update.new.self) bytes = λ b q. (
         c.in-Some.hasher,
         c.in-Some.is,
         λ m h.

@@ -2,8 +2,7 @@ use Rattle.std.proofs.Common.{◌≡◌, ◌≤◌, ◌∙◌, ap, arith, inl, i
 use Rattle.std.specs.Prelude.{Some, bit_or, slice_get, slice_set}
 use Rattle.std.proofs.lemmas.Bool.{cases_lt, false≢true}
 use Rattle.std.proofs.lemmas.Option.{get_or_from_slice_get, slice_get-get_or}
-use Rattle.n_detect.specs.ClassTests.{AreGroupsIn}
-use Rattle.n_detect.proofs.ClassGroups.{groups_past, groups_taken}
+use Rattle.n_detect.{specs.ClassTests.AreGroupsIn, proofs.ClassGroups.{groups_past, groups_taken}}
 use Rattle.n_detect.proofs.detecting.GroupTestsGoal.take.Goals as goal
 
 pub returns-in-Some : goal.returns-in-Some

@@ -90,8 +90,7 @@ returns c =
         head_is = refl;
         faults_are = refl;
         joined = joined_items _ _ _ _ _ _ _ c.in_ok-join.ensures.joined c.deref_mut.ensures.value
-            c.as_slice-3.ensures.value
-            (omega (
+            c.as_slice-3.ensures.value (omega (
               arith,
               c.args.self.verdicts.ok.0,
               c.in_ok-join.ensures.joined.count,

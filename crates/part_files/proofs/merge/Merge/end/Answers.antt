@@ -1,8 +1,6 @@
-use Rattle.std.proofs.Common.{◌∙◌, ap, arith, map, sym}
-use Rattle.std.proofs.lemmas.Result.{err_from_is_err_and}
+use Rattle.std.proofs.{Common.{◌∙◌, ap, arith, map, sym}, lemmas.Result.err_from_is_err_and}
 use Rattle.region_runs.specs.declared.parts.PartVerdict.TheVariants.{First}
-use Rattle.part_files.specs.Merging.{state_of}
-use Rattle.part_files.specs.PartReading.{texts_in}
+use Rattle.part_files.specs.{Merging.state_of, PartReading.texts_in}
 use Rattle.part_files.proofs.MergeEnds.{open_refused, no_verdict}
 use Rattle.part_files.proofs.merge.Merge.end.Goals as goal
 

@@ -1,7 +1,5 @@
-use Rattle.std.proofs.Common.{◌+◌, ◌*◌, get_or, ap, ◌∙◌, arith}
-use Rattle.std.specs.Int.{bit_at}
-use Rattle.patterns.specs.Tests.{IsWord, as_number, bit}
-use Rattle.patterns.specs.Octets.{tests_in_bytes}
+use Rattle.std.{proofs.Common.{◌+◌, ◌*◌, get_or, ap, ◌∙◌, arith}, specs.Int.bit_at}
+use Rattle.patterns.specs.{Tests.{IsWord, as_number, bit}, Octets.tests_in_bytes}
 use Rattle.patterns.proofs.Octets.{IsTestList-from_bytes, IsWord-from_bytes}
 use Rattle.patterns.proofs.octet.Octet.bytes.Goals as goal
 
@@ -15,6 +13,5 @@ returns-clause-bytes c = λ source in_width k in_word.
     (get_or own.bytes.items source 0) =
     IsWord-from_bytes own.width own.count own.bytes.items source c.self.invariant
     (omega (arith, in_width, ap (λ t. t.width) c.self.view_is)) in
-    ap (λ l. bit_at (get_or l source 0) k) c.as_slice.ensures.value
-    ∙ word k in_word
+    ap (λ l. bit_at (get_or l source 0) k) c.as_slice.ensures.value ∙ word k in_word
     ∙ ap (λ t. as_number (bit t.tests (64 * 0 + k) source)) c.self.view_is

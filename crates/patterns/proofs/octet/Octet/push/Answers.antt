@@ -1,12 +1,10 @@
 use Rattle.std.proofs.Common.{◌≡◌, ◌≢◌, ◌+◌, ◌<◌, ◌==◌, ◌∷◌, ◌++◌, [], ℕ, length, get_or, map, ap}
-use Rattle.std.proofs.Common.{sym, subst, ◌∙◌, arith}
-use Rattle.std.specs.Int.{bit_at}
-use Rattle.std.specs.Vec.{with_items}
+use Rattle.std.{proofs.Common.{sym, subst, ◌∙◌, arith}, specs.Int.bit_at, specs.Vec.with_items}
 use Rattle.std.proofs.lemmas.List.{with_items_is}
 use Rattle.patterns.specs.Octets.{AreBytes, tests_in_bytes}
 use Rattle.patterns.proofs.Octets.{AreBytes-push, octet-count, tests_in_bytes-push}
-use Rattle.patterns.proofs.octet.Octet.push.Goals as goal
 use Rattle.patterns.proofs.octet.Octet.push.Goals.{After-set_bits}
+use Rattle.patterns.proofs.octet.Octet.push.Goals as goal
 
 pub set_bits-requires-clause-lane : goal.set_bits-requires-clause-lane
 set_bits-requires-clause-lane c =
@@ -27,8 +25,7 @@ row_len c = c.requires.width ∙ sym (ap (λ t. t.width) c.self.view_is)
 others : (c : After-set_bits) → (source k : ℕ) → k ≢ c.self.inside.count
     → bit_at (get_or c.set_bits.new.bytes source 0) k
     ≡ bit_at (get_or c.self.inside.bytes.items source 0) k
-others c source k ne =
-    c.set_bits.ensures.others source k ne
+others c source k ne = c.set_bits.ensures.others source k ne
     ∙ ap (λ l. bit_at (get_or l source 0) k) c.deref_mut.ensures.value
 
 written : (c : After-set_bits)

@@ -8,8 +8,7 @@ use Rattle.patterns.proofs.test_text.Tests.add.Goals.{After-set_lane}
 pub set_lane-requires-clause-sources : goal.set_lane-requires-clause-sources
 set_lane-requires-clause-sources c =
     let fields = c.self.inside in
-    ap length c.deref_mut.ensures.value
-    ∙ room_width fields.width fields.count
+    ap length c.deref_mut.ensures.value ∙ room_width fields.width fields.count
     (word_lists fields.words.items) c.make_room.new.rows.items c.index_mut.result.now
     c.in_ok-make_room.ensures.room c.index_mut.ensures.value
     ∙ ap (λ t. t.width) c.self.view_is ∙ sym c.requires.width
@@ -26,8 +25,7 @@ set_lane-requires-clause-clear c = λ source.
 other_lanes : (c : After-set_lane) → (source k : ℕ) → k ≢ c.self.inside.count % 64
     → bit_at (get_or c.set_lane.new.words source 0) k
     ≡ bit_at (get_or c.index_mut.result.now.items source 0) k
-other_lanes c source k other =
-    c.set_lane.ensures.others source k other
+other_lanes c source k other = c.set_lane.ensures.others source k other
     ∙ ap (λ row. bit_at (get_or row source 0) k) c.deref_mut.ensures.value
 
 same_length : (c : After-set_lane)
@@ -55,8 +53,7 @@ returns-clause-pushed c =
     let at = (goal.at.returns-clause-pushed c).After-set_lane in
     let count =
     seen-count fields.width fields.count fields.words.items c.args.self.now c.self.view_is in
-    rw (← c.self.view_is)
-    (ap (λ tests. record { width = fields.width; tests = tests })
+    rw (← c.self.view_is) (ap (λ tests. record { width = fields.width; tests = tests })
     (tests_of-written fields.width fields.count
     (word_lists fields.words.items) c.make_room.new.rows.items c.index_mut.result.now
     c.in_ok-make_room.ensures.room c.index_mut.ensures.value c.args.row.now c.set_lane.new.words

@@ -1,8 +1,6 @@
-use Rattle.std.proofs.Common.{◌≡◌, ◌+◌, ◌++◌, ap, sym, subst, ◌∙◌, arith}
-use Rattle.std.proofs.lemmas.List.{map-append}
-use Rattle.patterns.specs.Words.{AreWords, tests_of}
+use Rattle.std.proofs.{Common.{◌≡◌, ◌+◌, ◌++◌, ap, sym, subst, ◌∙◌, arith}, lemmas.List.map-append}
+use Rattle.patterns.{specs.Words.{AreWords, tests_of}, proofs.TestWords.{seen-count, word_lists}}
 use Rattle.patterns.proofs.JoinedTests.{AreWords-joined, tests_of-joined}
-use Rattle.patterns.proofs.TestWords.{seen-count, word_lists}
 use Rattle.patterns.proofs.test_text.Tests.append.Goals as goal
 
 pub invariant_of-self-2 : goal.invariant_of-self-2

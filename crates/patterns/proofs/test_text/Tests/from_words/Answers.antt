@@ -1,7 +1,5 @@
-use Rattle.std.proofs.Common.{◌≡◌, ◌*◌, length, ap, ◌∙◌, arith, rules}
-use Rattle.std.proofs.lemmas.List.{length-map}
-use Rattle.patterns.specs.Tests.{blocks}
-use Rattle.patterns.proofs.MadeTests.{AreWords-from_rows, IsMadeOf-from_rows}
+use Rattle.std.proofs.{Common.{◌≡◌, ◌*◌, length, ap, ◌∙◌, arith, rules}, lemmas.List.length-map}
+use Rattle.patterns.{specs.Tests.blocks, proofs.MadeTests.{AreWords-from_rows, IsMadeOf-from_rows}}
 use Rattle.patterns.proofs.TestWords.{word_lists, IsTestList-from_words}
 use Rattle.patterns.proofs.test_text.Tests.from_words.Goals as goal
 

@@ -1,14 +1,10 @@
 use Rattle.std.proofs.Common.{◌≡◌, ℕ, ◌+◌, ◌/◌, ◌%◌, ◌==◌, ◌++◌, [], false, length, get_or, take}
 use Rattle.std.proofs.Common.{drop, map, sym, ap, ◌∙◌, subst, inl, inr, arith, rules}
-use Rattle.std.specs.Int.{bit_at}
-use Rattle.std.proofs.Math.Seq.{take-append_seam}
-use Rattle.patterns.specs.Least.{below}
-use Rattle.patterns.specs.Making.{digit, row_text}
-use Rattle.patterns.specs.Words.{bit_of}
-use Rattle.patterns.proofs.NumbersBelow.{length-map-below}
+use Rattle.std.{specs.Int.bit_at, proofs.Math.Seq.take-append_seam}
+use Rattle.patterns.specs.{Least.below, Making.{digit, row_text}, Words.bit_of}
+use Rattle.patterns.proofs.{NumbersBelow.length-map-below, TestWords.seen-count}
 use Rattle.patterns.proofs.MadeTests.{row_pushed, test_from_words, bit_from_words}
 use Rattle.patterns.proofs.TestWords.{word_lists, word_lists-read, block_width, block_within}
-use Rattle.patterns.proofs.TestWords.{seen-count}
 use Rattle.patterns.proofs.test_text.Tests.push_row.Goals as goal
 
 pub index-requires : goal.index-requires
@@ -67,8 +63,7 @@ returns-clause-row c =
     ∙ row_pushed old new row total
     (λ k d h. c.write_digits.ensures.others k d (inl (omega (arith, h, start)))
     ∙ resized k d ∙ c.in_ok-resize.ensures.by_index.0 k d (omega (arith, h, start))
-    (omega (arith, h, start, c.args.text.now.ok.0)))
-    (λ k d h.
+    (omega (arith, h, start, c.args.text.now.ok.0))) (λ k d h.
     subst (λ n. get_or new (n + k) d ≡ digit (get_or row k false)) start
     (c.write_digits.ensures.digits k d (omega (arith, h, row_len, words_len))
     ∙ ap (λ l. digit (bit_at (get_or l k 0) (c.args.test % 64) == 1)) same_words

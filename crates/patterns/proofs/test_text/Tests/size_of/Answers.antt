@@ -8,8 +8,7 @@ overflow_mul-block c =
     let begins = block_start _ c.args.block c.requires in
     omega (
       arith,
-      seen-count fields.width fields.count fields.words.items c.args.self.now
-          c.self.view_is,
+      seen-count fields.width fields.count fields.words.items c.args.self.now c.self.view_is,
       c.self.invariant.limit,
     )
 

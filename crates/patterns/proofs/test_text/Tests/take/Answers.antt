@@ -1,19 +1,15 @@
-use Rattle.std.proofs.Common.{◌≡◌, ◌+◌, ◌/◌, ◌++◌, length, get_or, ap, sym, subst, ◌∙◌}
-use Rattle.std.proofs.Common.{All, arith}
+use Rattle.std.proofs.Common.{◌≡◌, ◌+◌, ◌/◌, ◌++◌, length, get_or, ap, sym, subst, ◌∙◌, All, arith}
 use Rattle.std.specs.Int.{bit_at}
-use Rattle.patterns.specs.Words.{AreWords, tests_of}
-use Rattle.patterns.proofs.TestWords.{word_lists, seen-count}
-use Rattle.patterns.proofs.AddedTest.{room_block, room_width}
+use Rattle.patterns.{specs.Words.{AreWords, tests_of}, proofs.TestWords.{word_lists, seen-count}}
+use Rattle.patterns.proofs.{AddedTest.{room_block, room_width}, Octets.word_lists-set}
 use Rattle.patterns.proofs.Octets.{AreWords-moved, Moved, room_lanes, tests_of-moved}
-use Rattle.patterns.proofs.Octets.{word_lists-set}
-use Rattle.patterns.proofs.test_text.Tests.take.Goals as goal
 use Rattle.patterns.proofs.test_text.Tests.take.Goals.{After-merge_bytes}
+use Rattle.patterns.proofs.test_text.Tests.take.Goals as goal
 
 pub merge_bytes-requires-clause-sources : goal.merge_bytes-requires-clause-sources
 merge_bytes-requires-clause-sources c =
     let fields = c.self.inside in
-    ap length c.deref_mut.ensures.value
-    ∙ room_width fields.width fields.count
+    ap length c.deref_mut.ensures.value ∙ room_width fields.width fields.count
     (word_lists fields.words.items) c.make_room.new.rows.items c.index_mut.result.now
     c.in_ok-make_room.ensures.room c.index_mut.ensures.value
     ∙ ap (λ t. t.width) c.self.view_is ∙ sym c.requires.width ∙ sym c.bytes.ensures.count
@@ -68,8 +64,7 @@ invariant_of-self-2 c =
     let rows = c.make_room.new.rows.items in
     subst (AreWords fields.width (fields.count + c.count-moved.result))
     (sym (word_lists-set rows (fields.count / 64) c.index_mut.result.now c.merge_bytes.new.words
-    (len at)))
-    (AreWords-moved fields.width fields.count c.count-moved.result
+    (len at))) (AreWords-moved fields.width fields.count c.count-moved.result
     (word_lists fields.words.items) (word_lists rows) c.args.octet.now.tests c.bytes.result.now
     c.merge_bytes.new.words (moved at))
 
@@ -82,8 +77,7 @@ returns-clause-taken c =
     ap (λ tests. record { width = fields.width; tests = tests })
     (ap (tests_of fields.width (fields.count + c.count-moved.result))
     (word_lists-set rows (fields.count / 64) c.index_mut.result.now c.merge_bytes.new.words
-    (len at))
-    ∙ tests_of-moved fields.width fields.count c.count-moved.result
+    (len at)) ∙ tests_of-moved fields.width fields.count c.count-moved.result
     (word_lists fields.words.items) (word_lists rows) more c.bytes.result.now
     c.merge_bytes.new.words (moved at))
     ∙ ap (λ t. record { width = t.width; tests = t.tests ++ more }) c.self.view_is

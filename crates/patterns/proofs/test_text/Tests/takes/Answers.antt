@@ -1,5 +1,4 @@
-use Rattle.std.proofs.Common.{arith}
-use Rattle.std.proofs.lemmas.Bool.Decides.{nat_tests}
+use Rattle.std.proofs.{Common.arith, lemmas.Bool.Decides.nat_tests}
 use Rattle.patterns.proofs.TestWords.{seen-count}
 use Rattle.patterns.proofs.test_text.Tests.takes.Goals as goal
 
@@ -9,10 +8,7 @@ returns-then-count-le-MAX_TESTS c =
     let other = c.more.inside in
     let count = seen-count own.width own.count own.words.items c.args.self.now c.self.view_is in
     let more = seen-count other.width other.count other.words.items c.args.more.now c.more.view_is
-    in (
-      λ h. (grind (arith, nat_tests), omega (arith, count, more)),
-      λ h. grind (arith, nat_tests),
-    )
+    in (λ h. (grind (arith, nat_tests), omega (arith, count, more)), λ h. grind (arith, nat_tests))
 
 pub returns-else-count-le-MAX_TESTS : goal.returns-else-count-le-MAX_TESTS
 returns-else-count-le-MAX_TESTS c =

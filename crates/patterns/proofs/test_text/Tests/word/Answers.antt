@@ -1,8 +1,6 @@
-use Rattle.std.proofs.Common.{◌≡◌, ◌<◌, get_or, ap, sym, ◌∙◌, arith}
-use Rattle.std.proofs.lemmas.List.{get_or_read}
-use Rattle.patterns.specs.Words.{word_at}
+use Rattle.std.proofs.{Common.{◌≡◌, ◌<◌, get_or, ap, sym, ◌∙◌, arith}, lemmas.List.get_or_read}
+use Rattle.patterns.{specs.Words.word_at, proofs.TestWords.IsWord-from_words}
 use Rattle.patterns.proofs.TestWords.{word_lists, word_lists-read, block_width, block_within}
-use Rattle.patterns.proofs.TestWords.{IsWord-from_words}
 use Rattle.patterns.proofs.test_text.Tests.word.Goals as goal
 
 pub index-requires : goal.index-requires
@@ -35,6 +33,5 @@ returns c =
     get_or_read row.items c.args.source _ (omega arith) c.index-2.ensures 0
     ∙ ap (λ l. get_or l c.args.source 0)
     (sym (word_lists-read words c.args.block row block c.index.ensures))
-    in
-    λ k h. rw (found, ← c.self.view_is) (IsWord-from_words fields.width fields.count
+    in λ k h. rw (found, ← c.self.view_is) (IsWord-from_words fields.width fields.count
     (word_lists words) c.args.block c.args.source c.self.invariant source k h)

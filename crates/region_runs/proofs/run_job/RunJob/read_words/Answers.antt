@@ -1,8 +1,7 @@
 use Rattle.std.proofs.Common.{◌≡◌, ◌∙◌, ap, length, subst, sym}
 use Rattle.patterns.specs.Tests.{blocks}
 use Rattle.block_sim.specs.Parts.{Parts}
-use Rattle.region_runs.specs.RunJobs.{RunView, whole_of}
-use Rattle.region_runs.specs.Windows.{IsWindowFor}
+use Rattle.region_runs.specs.{RunJobs.{RunView, whole_of}, Windows.IsWindowFor}
 use Rattle.region_runs.proofs.ReadWords.{whole_window}
 use Rattle.region_runs.proofs.run_job.RunJob.read_words.Goals as goal
 

@@ -1,14 +1,11 @@
-use Rattle.std.proofs.Common.{◌≡◌, ◌<◌, ◌∙◌, All, List, Option, ap, arith, length, map}
-use Rattle.std.proofs.Common.{subst, sym, ℕ}
-use Rattle.fault_model.specs.Collapse.{Collapsed}
-use Rattle.fault_model.specs.Fault.{FaultList}
+use Rattle.std.proofs.Common.{◌≡◌, ◌<◌, ◌∙◌, All, List, Option, ap, arith, length, map, subst, sym}
+use Rattle.std.proofs.Common.{ℕ}
+use Rattle.fault_model.specs.{Collapse.Collapsed, Fault.FaultList}
 use Rattle.patterns.specs.Tests.{TestList, blocks}
 use Rattle.block_sim.specs.Parts.{BelongTogether, Parts}
 use Rattle.workers.specs.Verdict.{AreClassFirsts, AreFirsts}
-use Rattle.region_sim.proofs.Public.{all_within}
-use Rattle.region_sim.specs.ClassOrder.{AreAllByRegion}
-use Rattle.region_runs.specs.FaultFirsts.{first_at, firsts_of_faults}
-use Rattle.region_runs.specs.RunJobs.{RunView}
+use Rattle.region_sim.{proofs.Public.all_within, specs.ClassOrder.AreAllByRegion}
+use Rattle.region_runs.specs.{FaultFirsts.{first_at, firsts_of_faults}, RunJobs.RunView}
 use Rattle.region_runs.specs.Tasks.{AreKept, first_tests}
 use Rattle.region_runs.proofs.FirstHits.{first_open, firsts_kept}
 use Rattle.region_runs.proofs.FaultFirsts.{faults_first, hits_passed, serves_faults, verdict_found}

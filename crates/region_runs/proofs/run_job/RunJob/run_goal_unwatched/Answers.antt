@@ -1,10 +1,7 @@
-use Rattle.std.proofs.Common.{sym}
-use Rattle.std.proofs.lemmas.Result.{IfErr-weaker, IfOk-weaker}
+use Rattle.std.proofs.{Common.sym, lemmas.Result.{IfErr-weaker, IfOk-weaker}}
 use Rattle.block_sim.specs.Parts.{with_tests}
-use Rattle.region_runs.specs.Refused.{IsGoalFault, IsOpenFault}
-use Rattle.region_runs.specs.StretchRuns.{GoalWaitsFor}
-use Rattle.region_runs.specs.Tasks.{task_of}
-use Rattle.region_runs.proofs.RunRefusals.{fault_of_open, passing_fault}
+use Rattle.region_runs.specs.{Refused.{IsGoalFault, IsOpenFault}, StretchRuns.GoalWaitsFor}
+use Rattle.region_runs.{specs.Tasks.task_of, proofs.RunRefusals.{fault_of_open, passing_fault}}
 use Rattle.region_runs.proofs.WindowSteps.{all_with}
 use Rattle.region_runs.proofs.run_job.RunJob.run_goal_unwatched.Goals as goal
 

@@ -1,5 +1,4 @@
-use Rattle.std.proofs.Common.{◌∙◌, List, ℕ, ap, length}
-use Rattle.std.specs.Int.{div_ceil}
+use Rattle.std.{proofs.Common.{◌∙◌, List, ℕ, ap, length}, specs.Int.div_ceil}
 use Rattle.region_runs.proofs.stretches.Cut.new.Goals as goal
 
 pub returns-clause-cut : goal.returns-clause-cut

@@ -8,8 +8,7 @@ returns-in-Some c = λ hits own low mid high le up few same was found.
     let none = none_of c.args.kept.now (sym c.is_some.ensures ∙ c.if-is_some.false) in
     first_later c.args.start c.in-Some.test (Some c.saturating_add.result)
     (λ fits. ap Some (omega (arith, c.saturating_add.ensures, fits))) hits own low mid high le up
-    few
-    same (subst (IsFirstHit hits low (c.args.start + mid)) none was)
+    few same (subst (IsFirstHit hits low (c.args.start + mid)) none was)
     (subst (IsFirstHit own mid high) c.in-Some.is found)
 
 pub returns-in-None : goal.returns-in-None

@@ -1,10 +1,8 @@
 use Rattle.std.proofs.Common.{◌*◌, ◌==◌, ap, arith, subst, sym, ◌∙◌}
-use Rattle.std.specs.Int.{trailing_zeros, w128}
-use Rattle.std.proofs.lemmas.Nat.Bits.{bit_at-trailing_zeros}
+use Rattle.std.{specs.Int.{trailing_zeros, w128}, proofs.lemmas.Nat.Bits.bit_at-trailing_zeros}
 use Rattle.region_sim.specs.Goals.{IsFirstHit}
 use Rattle.region_sim.proofs.Goals.{first_stays, first_taken, none_is, none_taken, unknown}
-use Rattle.flat_circuit.specs.Words.{lane}
-use Rattle.flat_circuit.proofs.Public.{lane_zero}
+use Rattle.flat_circuit.{specs.Words.lane, proofs.Public.lane_zero}
 use Rattle.region_sim.proofs.goal.FirstTestGoal.take.Goals as goal
 
 pub returns-then-is_some : goal.returns-then-is_some

@@ -1,12 +1,10 @@
 use Rattle.std.proofs.Common.{◌≡◌, ◌≢◌, ◌<◌, ◌∙◌, ◌++◌, ◌∷◌, [], ap, arith, length, refl}
-use Rattle.std.specs.Prelude.{Some, slice_get, slice_set}
-use Rattle.std.proofs.lemmas.Option.{slice_get_read}
-use Rattle.region_sim.specs.KnownWide.{known_wide}
-use Rattle.region_sim.specs.declared.known_wide.KnownWord.{KnownWord}
+use Rattle.std.{specs.Prelude.{Some, slice_get, slice_set}, proofs.lemmas.Option.slice_get_read}
+use Rattle.region_sim.specs.{KnownWide.known_wide, declared.known_wide.KnownWord.KnownWord}
 use Rattle.region_sim.proofs.KnownWideWords.{again_found, again_view, count, more_found, more_room}
 use Rattle.region_sim.proofs.KnownWideWords.{more_view, none_here, other_here}
-use Rattle.region_sim.proofs.known_wide.KnownWide.keep.Goals as goal
 use Rattle.region_sim.proofs.known_wide.KnownWide.keep.Goals.{After-len, After-len-else-place-len}
+use Rattle.region_sim.proofs.known_wide.KnownWide.keep.Goals as goal
 
 pub index-requires : goal.index-requires
 index-requires c =
@@ -25,8 +23,7 @@ leads c =
     (omega (arith, long, seen, c.requires)) c.index.ensures
 
 unknown : (c : After-len-else-place-len) → (one : KnownWord)
-    → slice_get c.self.inside.known.items c.index.result.now ≡ Some one
-    → one.signal ≢ c.args.signal
+    → slice_get c.self.inside.known.items c.index.result.now ≡ Some one → one.signal ≢ c.args.signal
 unknown c =
     let own = c.self.inside in
     let known = own.known.items in
@@ -37,8 +34,7 @@ unknown c =
           (slice_get_read known (length known) place w.index-then-place-len.result.now refl
           (omega (arith, w.if-place-len.true, c.len.ensures, own.known.ok.0))
           w.index-then-place-len.ensures) w.if-index-signal.false
-      | goal.else-place-len-via-else-place-len w ↦
-          none_here known c.args.signal place
+      | goal.else-place-len-via-else-place-len w ↦ none_here known c.args.signal place
           (omega (arith, w.if-place-len.false, c.len.ensures, own.known.ok.0))
     ]
 
@@ -117,8 +113,7 @@ returns-else-place-len c =
     ap (λ l. known_wide l (slice_set places c.args.signal c.len-else-place-len.result))
     c.push_reserved.ensures.items
     ∙ (ap (λ p. known_wide (own.known.items ++ new ∷ []) (slice_set places c.args.signal p))
-    (last at)
-    ∙ (more_view own.places.items own.known.items _ c.self.invariant c.args.signal
+    (last at) ∙ (more_view own.places.items own.known.items _ c.self.invariant c.args.signal
     c.index.result.now lead
     (record { signal = c.args.signal; word = c.args.word }) refl (unknown at)
     ∙ ap (λ l. slice_set l c.args.signal (Some c.args.word)) c.self.view_is))

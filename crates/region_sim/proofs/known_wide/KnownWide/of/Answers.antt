@@ -2,9 +2,8 @@ use Rattle.std.proofs.Common.{◌≡◌, ◌<◌, ◌∙◌, ap, arith, length, 
 use Rattle.std.specs.Prelude.{None, Some, slice_get, slice_index_or}
 use Rattle.std.proofs.lemmas.Option.{slice_get_read}
 use Rattle.region_sim.proofs.KnownWideWords.{count, known_here, none_here, other_here, same_some}
-use Rattle.region_sim.proofs.KnownWideWords.{unknown_here}
+use Rattle.region_sim.proofs.{KnownWideWords.unknown_here, known_wide.KnownWide.of.Goals.After-len}
 use Rattle.region_sim.proofs.known_wide.KnownWide.of.Goals as goal
-use Rattle.region_sim.proofs.known_wide.KnownWide.of.Goals.{After-len}
 
 pub index-requires : goal.index-requires
 index-requires c =
@@ -54,8 +53,6 @@ returns-else-place-len c =
           (slice_get_read known (length known) place w.index-then-place-len.result.now refl
           (omega (arith, w.if-place-len.true, c.len.ensures, own.known.ok.0))
           w.index-then-place-len.ensures) w.if-index-signal.false
-      | goal.else-place-len-via-else-place-len w ↦
-          none_here known c.args.signal place
+      | goal.else-place-len-via-else-place-len w ↦ none_here known c.args.signal place
           (omega (arith, w.if-place-len.false, c.len.ensures, own.known.ok.0))
-    ])
-    ∙ ap (λ l. slice_index_or l c.args.signal None) c.self.view_is
+    ]) ∙ ap (λ l. slice_index_or l c.args.signal None) c.self.view_is

@@ -1,5 +1,4 @@
-use Rattle.std.proofs.Common.{◌∙◌, ap, arith, length}
-use Rattle.std.specs.Prelude.{Some, slice_set}
+use Rattle.std.{proofs.Common.{◌∙◌, ap, arith, length}, specs.Prelude.{Some, slice_set}}
 use Rattle.region_sim.proofs.KnownWords.{known_count, known_more}
 use Rattle.region_sim.proofs.known_words.KnownWords.keep.Goals as goal
 
@@ -21,5 +20,4 @@ pub returns : goal.returns
 returns c =
     let own = c.self.inside in
     known_more own.unit own.marks.items own.words.items c.args.signal c.args.word
-    c.self.invariant.count
-    ∙ ap (λ l. slice_set l c.args.signal (Some c.args.word)) c.self.view_is
+    c.self.invariant.count ∙ ap (λ l. slice_set l c.args.signal (Some c.args.word)) c.self.view_is

@@ -1,5 +1,4 @@
-use Rattle.std.proofs.Common.{◌∙◌, ap, arith, length}
-use Rattle.std.specs.Prelude.{None, slice_index_or}
+use Rattle.std.{proofs.Common.{◌∙◌, ap, arith, length}, specs.Prelude.{None, slice_index_or}}
 use Rattle.region_sim.proofs.KnownWords.{known_count, known_here, unknown_here}
 use Rattle.region_sim.proofs.known_words.KnownWords.of.Goals as goal
 

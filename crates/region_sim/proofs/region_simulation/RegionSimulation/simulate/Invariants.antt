@@ -1,8 +1,5 @@
-use Rattle.std.proofs.Common.{◌≡◌, ◌≤◌, ◌-◌, ℕ, length}
-use Rattle.std.specs.Prelude.{slice_get}
-use Rattle.region_sim.specs.Goals.{HaveTaken}
-use Rattle.region_sim.specs.OpenPlaces.{KeepsClosed}
-use Rattle.region_sim.specs.RegionHits.{ServesRegions}
+use Rattle.std.{proofs.Common.{◌≡◌, ◌≤◌, ◌-◌, ℕ, length}, specs.Prelude.slice_get}
+use Rattle.region_sim.specs.{Goals.HaveTaken, OpenPlaces.KeepsClosed, RegionHits.ServesRegions}
 use Rattle.region_sim.proofs.region_simulation.RegionSimulation.simulate.Given as goal
 
 abbrev pub invariant-loop-place : goal.invariant-loop-place

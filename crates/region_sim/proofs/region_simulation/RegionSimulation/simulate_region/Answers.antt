@@ -1,21 +1,18 @@
-use Rattle.std.proofs.Common.{◌≡◌, ◌∙◌, ◌/◌, All, ap, arith, inl, inr, length}
-use Rattle.std.proofs.Common.{subst, sym}
-use Rattle.std.specs.Prelude.{Contains, Some, slice_get, unwrap_or}
-use Rattle.std.proofs.lemmas.Bool.{false≢true}
-use Rattle.flat_circuit.specs.BlockSpans.{IsSpan}
-use Rattle.region_sim.specs.Pack.{IsWithin}
-use Rattle.region_sim.specs.Goals.{HaveTaken}
-use Rattle.region_sim.specs.OpenPlaces.{KeepsClosed}
+use Rattle.std.proofs.Common.{◌≡◌, ◌∙◌, ◌/◌, All, ap, arith, inl, inr, length, subst, sym}
+use Rattle.std.{specs.Prelude.{Contains, Some, slice_get, unwrap_or}, proofs.lemmas.Bool.false≢true}
+use Rattle.flat_circuit.{specs.BlockSpans.IsSpan, proofs.Public.count_there}
+use Rattle.region_sim.specs.{Pack.IsWithin, Goals.HaveTaken, OpenPlaces.KeepsClosed}
 use Rattle.region_sim.specs.RegionHits.{AreGathered, AreInOrder, IsFollowedAt, IsHiddenStem}
-use Rattle.region_sim.specs.RegionHits.{ServesRegions}
-use Rattle.region_sim.specs.Units.{unit_span}
-use Rattle.flat_circuit.proofs.Public.{count_there}
-use Rattle.region_sim.proofs.Arrivals.{room_at_rest}
-use Rattle.region_sim.proofs.PackedRegions.{all_slots}
-use Rattle.region_sim.proofs.RegionHits.{all_taken}
+use Rattle.region_sim.specs.{RegionHits.ServesRegions, Units.unit_span}
+use Rattle.region_sim.proofs.{Arrivals.room_at_rest, PackedRegions.all_slots, RegionHits.all_taken}
 use Rattle.region_sim.proofs.UnitSpans.{in_order, sweep_span, sweep_unit, unit_is}
+use Rattle.region_sim.proofs.region_simulation.RegionSimulation.simulate_region.Goals.{
+  After-flip_all,
+}
+use Rattle.region_sim.proofs.region_simulation.RegionSimulation.simulate_region.Goals.{
+  Else-span-gt1,
+}
 use Rattle.region_sim.proofs.region_simulation.RegionSimulation.simulate_region.Goals as goal
-use Rattle.region_sim.proofs.region_simulation.RegionSimulation.simulate_region.Goals.{After-flip_all, Else-span-gt1}
 
 pub invariant_of-self : goal.invariant_of-self
 invariant_of-self g c =

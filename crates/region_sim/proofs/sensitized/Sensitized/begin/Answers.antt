@@ -1,13 +1,12 @@
 use Rattle.std.proofs.Common.{◌<◌, ◌≤◌, ◌∙◌, ℕ, arith, length, sym, subst, List}
-use Rattle.std.specs.Prelude.{None}
-use Rattle.std.proofs.lemmas.Bool.{false≢true}
+use Rattle.std.{specs.Prelude.None, proofs.lemmas.Bool.false≢true}
 use Rattle.bench_net.specs.Scan.{names}
 use Rattle.fault_model.specs.Solution.{Test}
 use Rattle.region_sim.specs.Sensitized.{AreKnownFlips, CarriesFlip}
-use Rattle.flat_circuit.specs.Words.{AreWords}
 use Rattle.region_sim.proofs.SensitizedLanes.{carried_dead, carried_live, flips_begun}
-use Rattle.region_sim.proofs.sensitized.Sensitized.begin.Goals as goal
 use Rattle.region_sim.proofs.sensitized.Sensitized.begin.Goals.{then-is_live, else-is_live}
+use Rattle.flat_circuit.specs.Words.{AreWords}
+use Rattle.region_sim.proofs.sensitized.Sensitized.begin.Goals as goal
 
 pub returns-clause-sensitized : goal.returns-clause-sensitized
 returns-clause-sensitized c =

@@ -1,11 +1,9 @@
 use Rattle.std.proofs.Common.{◌<◌, ◌≤◌, ◌∙◌, ℕ, arith, length, sym, subst, List, true, false, Bool}
-use Rattle.std.proofs.Common.{◌≡◌, refl}
-use Rattle.std.proofs.lemmas.Bool.{false≢true}
+use Rattle.std.proofs.{Common.{◌≡◌, refl}, lemmas.Bool.false≢true}
 use Rattle.bench_net.specs.Scan.{names}
 use Rattle.fault_model.specs.Solution.{Test}
 use Rattle.wide_words.specs.Wide.{number}
-use Rattle.region_sim.specs.Pack.{AreRows}
-use Rattle.region_sim.specs.Units.{AreKnownInUnit, CarryFlip}
+use Rattle.region_sim.specs.{Pack.AreRows, Units.{AreKnownInUnit, CarryFlip}}
 use Rattle.region_sim.proofs.UnitRegions.{carry_dead, carry_live, known_begun}
 use Rattle.region_sim.proofs.unit_region.UnitRegion.begin.Goals as goal
 

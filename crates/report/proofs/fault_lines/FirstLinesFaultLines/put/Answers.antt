@@ -1,5 +1,4 @@
-use Rattle.std.proofs.Common.{◌≤◌, subst, sym}
-use Rattle.std.specs.Prelude.{zip}
+use Rattle.std.{proofs.Common.{◌≤◌, subst, sym}, specs.Prelude.zip}
 use Rattle.byte_output.proofs.Public.{writes_same}
 use Rattle.report.specs.Report.{wanted_line}
 use Rattle.threaded_lines.proofs.Public.{mapped_between, mapped_count}

@@ -1,7 +1,6 @@
 use Rattle.std.proofs.Common.{◌≡◌, ◌<◌, ◌∙◌, ◌++◌, [], ap, append_assoc, arith, get_or, length, map}
-use Rattle.std.proofs.Common.{List, refl, subst, sym, ℕ}
+use Rattle.std.proofs.{Common.{List, refl, subst, sym, ℕ}, lemmas.Option.slice_get_within}
 use Rattle.std.proofs.lemmas.List.{get_or-map, get_or_read, length-map}
-use Rattle.std.proofs.lemmas.Option.{slice_get_within}
 use Rattle.std.specs.Prelude.{OnOk, Option, Some, slice_get, unwrap_or}
 use Rattle.fault_model.specs.Fault.{Fault}
 use Rattle.report.specs.declared.contents.Lines.{Lines}
@@ -57,8 +56,7 @@ pub put_further-requires : goal.put_further-requires
 put_further-requires c =
     let own = c.args.self.now in
     cells_within own.further.now (map further_in own.further.now) (length own.list.now.list)
-    c.index-fault.result.now refl own.filled
-    (omega (
+    c.index-fault.result.now refl own.filled (omega (
       arith,
       own.counted,
       slice_get_within (values_in own.column).values
@@ -75,8 +73,7 @@ returns c =
     let rows = listed own.list.now.list (values_in own.column).values own.lines in
     let all = length-map rows (fault_row circuit further) in
     let at = row_there own.list.now.list (values_in own.column).values own.lines
-    own.numbers.items c.args.row _ k own.counted own.chosen c.requires all
-    c.index-fault.ensures in
+    own.numbers.items c.args.row _ k own.counted own.chosen c.requires all c.index-fault.ensures in
     let value : c.value-value.result ≡ at.1 = ap (λ o. unwrap_or o c.value-value.result)
     (sym c.value-value.ensures ∙ at.3) in
     let row : row_in c.row_of.result ≡ row_cells circuit at.0 = c.row_of.ensures at.0 at.2 in
@@ -86,13 +83,11 @@ returns c =
     (omega (arith, all)) ∙ ap (fault_row circuit further) (at.4 (k, (at.0, at.1))) in
     let last = mapped_twice (λ (column : FurtherColumn). cell_at column k) further_in
     own.further.now in
-    let first = c.in_ok-put_fault.ensures
-    ∙ (ap (λ r. old ++ fault_cells r c.value-value.result) row
+    let first = c.in_ok-put_fault.ensures ∙ (ap (λ r. old ++ fault_cells r c.value-value.result) row
     ∙ ap (λ v. old ++ fault_cells (row_cells circuit at.0) v) value) in
     subst (λ t. OnOk c.put_further.result (map cell_in c.put_further.new.cells.items ≡ t))
     (ap (λ t. t ++ map (λ f. cell_at (further_in f) k) own.further.now) first
     ∙ (append_assoc old (fault_cells (row_cells circuit at.0) at.1)
     (map (λ f. cell_at (further_in f) k) own.further.now)
     ∙ (ap (λ t. old ++ (fault_cells (row_cells circuit at.0) at.1 ++ t)) last
-    ∙ ap (λ t. old ++ t) (sym cells))))
-    c.put_further.ensures
+    ∙ ap (λ t. old ++ t) (sym cells)))) c.put_further.ensures

@@ -1,7 +1,5 @@
-use Rattle.std.proofs.Common.{arith}
-use Rattle.std.proofs.lemmas.List.{length-map}
+use Rattle.std.{proofs.Common.arith, proofs.lemmas.List.length-map, specs.List.enumerate_from}
 use Rattle.std.proofs.lemmas.List.FromFn.{length-enumerate_from}
-use Rattle.std.specs.List.{enumerate_from}
 use Rattle.tables.specs.Lists.{count_row}
 use Rattle.tables.proofs.lists.HistogramRowsRows.count.Goals as goal
 

@@ -1,7 +1,5 @@
-use Rattle.std.proofs.Common.{◌≡◌, ◌<◌, ◌∙◌, ◌++◌, [], ap, arith, get_or}
-use Rattle.std.proofs.Common.{length, map, rules, subst, sym}
-use Rattle.std.specs.Prelude.{OnOk}
-use Rattle.std.specs.List.{enumerate_from}
+use Rattle.std.proofs.Common.{◌≡◌, ◌<◌, ◌∙◌, ◌++◌, [], ap, arith, get_or, length, map, rules, subst}
+use Rattle.std.{proofs.Common.sym, specs.Prelude.OnOk, specs.List.enumerate_from}
 use Rattle.std.proofs.lemmas.List.{get_or-map, length-map}
 use Rattle.std.proofs.lemmas.List.FromFn.{get_or-enumerate_from, length-enumerate_from}
 use Rattle.table_rows.specs.Cells.{cell_in}

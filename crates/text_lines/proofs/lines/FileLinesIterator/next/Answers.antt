@@ -1,8 +1,7 @@
-use Rattle.std.proofs.Common.{◌≡◌, ◌∷◌, ◌+◌, ◌-◌, ◌<◌, length, take, drop, sym, ap, ◌∙◌, arith, rules}
-use Rattle.std.proofs.lemmas.List.{take_rest}
+use Rattle.std.proofs.Common.{◌≡◌, ◌∷◌, ◌+◌, ◌-◌, ◌<◌, length, take, drop, sym, ap, ◌∙◌, arith}
+use Rattle.std.proofs.{Common.rules, lemmas.List.take_rest}
 use Rattle.std.specs.Str.Lines.{strip_carriage_return}
-use Rattle.text_lines.specs.Lines.{lines}
-use Rattle.text_lines.specs.Reading.{lines_left}
+use Rattle.text_lines.specs.{Lines.lines, Reading.lines_left}
 use Rattle.text_lines.proofs.FirstLine.{lines_first, lines_last}
 use Rattle.text_lines.proofs.lines.FileLinesIterator.next.Goals as goal
 

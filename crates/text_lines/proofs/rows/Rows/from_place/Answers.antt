@@ -1,7 +1,5 @@
-use Rattle.std.proofs.Common.{◌+◌, ◌++◌, take, drop, sym, ap, ◌∙◌}
-use Rattle.std.proofs.lemmas.List.{take_rest}
-use Rattle.text_lines.specs.Rows.{rows_from}
-use Rattle.text_lines.proofs.CutRows.{rows_from-cut}
+use Rattle.std.proofs.{Common.{◌+◌, ◌++◌, take, drop, sym, ap, ◌∙◌}, lemmas.List.take_rest}
+use Rattle.text_lines.{specs.Rows.rows_from, proofs.CutRows.rows_from-cut}
 use Rattle.text_lines.proofs.rows.Rows.from_place.Goals as goal
 
 pub returns : goal.returns

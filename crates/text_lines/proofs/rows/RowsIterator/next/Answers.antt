@@ -20,12 +20,9 @@ returns-then-not-is_empty-clause-goes c =
     let parts = c.first_line.result in
     let is = c.first_line.ensures in
     let some : 0 < length parts.0.now = search rules in
-    let shorter =
-    ap length
-    (sym c.loop-line.invariant
+    let shorter = ap length (sym c.loop-line.invariant
     ∙ rows_from_first at.line at.text.now line parts.1.now parts.0.now refl is.rest is.held some)
-    in
-    search rules
+    in search rules
 
 pub loop-line-preserved : goal.loop-line-preserved
 loop-line-preserved c =
@@ -33,7 +30,5 @@ loop-line-preserved c =
     let line = before_first (λ b. b == 10) at.text.now in
     let parts = c.first_line.result in
     let is = c.first_line.ensures in
-    sym
-    (rows_from_skip at.line at.text.now line parts.1.now parts.0.now refl is.rest is.held
-    (search rules))
-    ∙ c.loop-line.invariant
+    sym (rows_from_skip at.line at.text.now line parts.1.now parts.0.now refl is.rest is.held
+    (search rules)) ∙ c.loop-line.invariant

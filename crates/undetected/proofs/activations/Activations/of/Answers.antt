@@ -1,15 +1,10 @@
 use Rattle.std.proofs.Common.{◌≡◌, ◌<◌, ◌∙◌, ap, arith, false, length, subst, sym, true}
-use Rattle.std.proofs.lemmas.Option.{slice_get-get_or}
-use Rattle.std.specs.Prelude.{Contains, Some, slice_get}
-use Rattle.list_lemmas.proofs.Members.{contained}
-use Rattle.list_lemmas.proofs.Places.{at_place}
-use Rattle.bench_net.specs.Scan.{names}
-use Rattle.bench_net.specs.Statement.{Name}
-use Rattle.fault_model.specs.Detection.{name_on}
-use Rattle.fault_model.specs.Fault.{faults}
+use Rattle.std.{proofs.lemmas.Option.slice_get-get_or, specs.Prelude.{Contains, Some, slice_get}}
+use Rattle.list_lemmas.proofs.{Members.contained, Places.at_place}
+use Rattle.bench_net.specs.{Scan.names, Statement.Name}
+use Rattle.fault_model.specs.{Detection.name_on, Fault.faults}
 use Rattle.flat_circuit.specs.Origins.{Carries}
-use Rattle.undetected.proofs.ActivatedAlike.{as_the_stem, bit_of, line_of}
-use Rattle.undetected.proofs.KnownReasons.{list_is}
+use Rattle.undetected.proofs.{ActivatedAlike.{as_the_stem, bit_of, line_of}, KnownReasons.list_is}
 use Rattle.undetected.proofs.LinesInCircuit.{listed_named}
 use Rattle.undetected.proofs.activations.Activations.of.Goals as goal
 
@@ -26,8 +21,7 @@ returns-then-stuck_of c = λ f at.
     let job = c.args.run.now.whole in
     let own = faults job.list.model job.circuit in
     let together = c.tests-tests.ensures.together in
-    let same = ap (λ l. l.list)
-    (c.faults-list.ensures.part ∙ c.job-job.ensures.list) in
+    let same = ap (λ l. l.list) (c.faults-list.ensures.part ∙ c.job-job.ensures.list) in
     let listed : slice_get own c.args.fault ≡ Some f =
     ap (λ l. slice_get l c.args.fault) (sym (list_is job together)) ∙ at in
     let bit : true ≡ f.stuck = sym c.if-stuck_of.true ∙ bit_of c.faults-list.result.now.list
@@ -48,8 +42,7 @@ returns-then-stuck_of c = λ f at.
       c.requires.known.one_room,
     )) in
     rw (c.index.ensures) (as_the_stem job.list.model job.circuit job.tests.tests f s true _
-    together.circuit.well_formed
-    (contained own f (at_place own c.args.fault f listed)) bit carries
+    together.circuit.well_formed (contained own f (at_place own c.args.fault f listed)) bit carries
     (c.requires.known.at_one s _ there))
 
 pub returns-else-stuck_of : goal.returns-else-stuck_of
@@ -57,8 +50,7 @@ returns-else-stuck_of c = λ f at.
     let job = c.args.run.now.whole in
     let own = faults job.list.model job.circuit in
     let together = c.tests-tests.ensures.together in
-    let same = ap (λ l. l.list)
-    (c.faults-list.ensures.part ∙ c.job-job.ensures.list) in
+    let same = ap (λ l. l.list) (c.faults-list.ensures.part ∙ c.job-job.ensures.list) in
     let listed : slice_get own c.args.fault ≡ Some f =
     ap (λ l. slice_get l c.args.fault) (sym (list_is job together)) ∙ at in
     let bit : false ≡ f.stuck = sym c.if-stuck_of.false ∙ bit_of c.faults-list.result.now.list

@@ -1,16 +1,13 @@
 use Rattle.std.proofs.Common.{◌≡◌, ◌+◌, ◌-◌, ◌*◌, ◌∙◌, ◌%◌, ap, arith, inl, inr}
 use Rattle.std.proofs.lemmas.Bool.{cases_lt}
-use Rattle.wide_words.specs.Lanes.{lane}
-use Rattle.wide_words.specs.Wide.{number}
-use Rattle.wide_words.proofs.Halves.{lane_zero}
+use Rattle.wide_words.{specs.Lanes.lane, specs.Wide.number, proofs.Halves.lane_zero}
 use Rattle.wide_words.proofs.copies.LowCopies.part.Goals as goal
 
 pub returns-clause-own : goal.returns-clause-own
 returns-clause-own c = λ k lt here.
     let same : 0 + k % 64 ≡ k % 64 = omega arith in
     let place : 64 * c.args.slot + k % 64 ≡ k = omega (arith, here) in
-    ap (lane c.joined.result) same
-    ∙ (c.joined.ensures.low (k % 64) (omega arith)
+    ap (lane c.joined.result) same ∙ (c.joined.ensures.low (k % 64) (omega arith)
     ∙ (c.to_parts.ensures c.args.slot (k % 64) (omega arith)
     ∙ ap (lane (number c.args.word)) place))
 

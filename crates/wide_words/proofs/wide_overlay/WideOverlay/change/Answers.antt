@@ -1,11 +1,10 @@
 use Rattle.std.proofs.Common.{◌≡◌, ◌<◌, ◌≤◌, ◌∙◌, ◌++◌, ◌∷◌, [], ap, arith, length}
 use Rattle.std.specs.Prelude.{slice_index_or, slice_set}
-use Rattle.wide_words.specs.Wide.{number}
-use Rattle.wide_words.specs.WideOverlay.{overlaid}
+use Rattle.wide_words.specs.{Wide.number, WideOverlay.overlaid}
 use Rattle.wide_words.proofs.WideOverlays.{change_view, changed_more, length_overlaid, place_none}
 use Rattle.wide_words.proofs.WideOverlays.{room_words}
-use Rattle.wide_words.proofs.wide_overlay.WideOverlay.change.Goals as goal
 use Rattle.wide_words.proofs.wide_overlay.WideOverlay.change.Goals.{After-len}
+use Rattle.wide_words.proofs.wide_overlay.WideOverlay.change.Goals as goal
 
 within : (c : After-len) → c.args.signal < length c.self.inside.index.items
 within c =

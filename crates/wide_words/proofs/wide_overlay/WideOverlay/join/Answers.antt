@@ -1,13 +1,11 @@
-use Rattle.std.proofs.Common.{◌≡◌, ◌≢◌, ◌<◌, ◌∙◌, ap, arith, length, sym}
+use Rattle.std.proofs.{Common.{◌≡◌, ◌≢◌, ◌<◌, ◌∙◌, ap, arith, length, sym}, lemmas.Nat.le_or_l}
 use Rattle.std.specs.Prelude.{bit_or, slice_index_or, slice_set}
 use Rattle.std.proofs.lemmas.List.{get_or_default}
-use Rattle.std.proofs.lemmas.Nat.{le_or_l}
-use Rattle.wide_words.specs.Wide.{number}
-use Rattle.wide_words.specs.WideOverlay.{number_at, overlaid}
+use Rattle.wide_words.specs.{Wide.number, WideOverlay.{number_at, overlaid}}
 use Rattle.wide_words.proofs.WideOverlays.{at_signal, join_view, joined_place, length_overlaid}
 use Rattle.wide_words.proofs.WideOverlays.{number_read, place_some}
-use Rattle.wide_words.proofs.wide_overlay.WideOverlay.join.Goals as goal
 use Rattle.wide_words.proofs.wide_overlay.WideOverlay.join.Goals.{After-or-both}
+use Rattle.wide_words.proofs.wide_overlay.WideOverlay.join.Goals as goal
 
 within : (c : After-or-both) → c.args.signal < length c.self.inside.index.items
 within c =
@@ -28,21 +26,17 @@ differs c =
     let words = c.self.inside.words.items in
     let index = c.self.inside.index.items in
     let is : overlaid words index ≡ c.args.self.now = c.self.view_is in
-    place_some words index c.self.inside.changed.items _ _ c.self.invariant c.args.signal
-    (within c)
+    place_some words index c.self.inside.changed.items _ _ c.self.invariant c.args.signal (within c)
     (λ e. c.requires.differs (ap (λ x. slice_index_or x c.args.signal 0) (sym is) ∙ e))
 
-both : (c : After-or-both) → number c.or-both.result
-    ≡ bit_or
-    (number_at c.self.inside.words.items
-    (slice_index_or c.self.inside.index.items c.args.signal 0))
+both : (c : After-or-both) → number c.or-both.result ≡ bit_or
+    (number_at c.self.inside.words.items (slice_index_or c.self.inside.index.items c.args.signal 0))
     (number c.args.word)
 both c =
     let words = c.self.inside.words.items in
     let below = c.self.invariant.within c.args.signal in
     let at = place c in
-    c.or-both.ensures
-    ∙ ap (λ x. bit_or x (number c.args.word))
+    c.or-both.ensures ∙ ap (λ x. bit_or x (number c.args.word))
     (number_read words c.index.result.now c.index-2.result.now (omega (arith, below, at))
     c.index-2.ensures ∙ ap (number_at words) at)
 

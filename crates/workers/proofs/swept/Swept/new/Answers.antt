@@ -2,8 +2,7 @@ use Rattle.std.proofs.Common.{◌≡◌, ◌∙◌, ap, arith, length, rules, su
 use Rattle.std.specs.Prelude.{slice_get, slice_index}
 use Rattle.std.proofs.lemmas.Option.{get_or_from_slice_get, slice_get_within}
 use Rattle.block_sim.specs.Listed.{IsListed}
-use Rattle.region_sim.specs.ClassOrder.{classes_of}
-use Rattle.region_sim.specs.RegionHits.{ServesRegions}
+use Rattle.region_sim.specs.{ClassOrder.classes_of, RegionHits.ServesRegions}
 use Rattle.workers.specs.Swept.{IsSweptFirst}
 use Rattle.workers.proofs.SweptBlocks.{none_below, placed_row, replicated}
 use Rattle.workers.proofs.swept.Swept.new.Goals as goal
@@ -27,8 +26,7 @@ returns c =
       next = c.in_ok-next.ensures.next;
       numbers = c.in_ok-order.ensures.count;
       placed = λ class lt. placed_row rows
-          (slice_index c.in_ok-order.order.positions.items class) class
-          (ap (λ (l : List ℕ).
+          (slice_index c.in_ok-order.order.positions.items class) class (ap (λ (l : List ℕ).
           slice_get l (slice_index c.in_ok-order.order.positions.items class)) same
           ∙ c.in_ok-order.ensures.positions.each class (omega (
             arith,
@@ -38,8 +36,7 @@ returns c =
       found = λ k row first at is.
           let low = slice_get_within rows k row at in
           let none : first ≡ None = replicated c.len-count.result k None first
-          (ap (λ l. slice_get l k) (sym items) ∙ is)
-          (omega (arith, low, long)) in
+          (ap (λ l. slice_get l k) (sym items) ∙ is) (omega (arith, low, long)) in
           let listed = subst (IsListed job) (get_or_from_slice_get rows k row row at)
           (c.in_ok-rows.ensures.each k row low) in
           subst (IsSweptFirst job 0 row.class) (sym none)

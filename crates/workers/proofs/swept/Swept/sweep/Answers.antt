@@ -1,11 +1,7 @@
-use Rattle.std.proofs.Common.{◌∙◌, ◌+◌, ◌*◌, ap, length, subst, sym}
-use Rattle.std.proofs.lemmas.List.{with_items_is}
-use Rattle.region_sim.specs.Goals.{HaveTaken, IsFirstHit, is_unknown}
-use Rattle.region_sim.specs.OpenPlaces.{AreNextOpen}
-use Rattle.region_sim.specs.RegionHits.{ServesRegions}
-use Rattle.workers.specs.Swept.{AreSweptFirsts}
-use Rattle.region_sim.proofs.Public.{successors_open}
-use Rattle.workers.proofs.SweptBlocks.{swept_more}
+use Rattle.std.proofs.{Common.{◌∙◌, ◌+◌, ◌*◌, ap, length, subst, sym}, lemmas.List.with_items_is}
+use Rattle.region_sim.specs.{Goals.{HaveTaken, IsFirstHit, is_unknown}, OpenPlaces.AreNextOpen}
+use Rattle.region_sim.{specs.RegionHits.ServesRegions, proofs.Public.successors_open}
+use Rattle.workers.{specs.Swept.AreSweptFirsts, proofs.SweptBlocks.swept_more}
 use Rattle.workers.proofs.swept.Swept.sweep.Goals as goal
 
 pub simulate-requires-clause-next : goal.simulate-requires-clause-next
@@ -28,8 +24,7 @@ returns-clause-serves c =
     let items = with_items_is s.firsts after (step.places ∙ c.as_mut_slice-firsts.ensures.len) in
     let rows_is = c.as_slice-rows.ensures.value in
     let taken : HaveTaken IsFirstHit job span s.rows.items 0 (length s.rows.items) s.firsts.items
-    after =
-    subst (λ f. HaveTaken IsFirstHit job span s.rows.items 0 (length s.rows.items) f after)
+    after = subst (λ f. HaveTaken IsFirstHit job span s.rows.items 0 (length s.rows.items) f after)
     c.as_mut_slice-firsts.ensures.value
     (subst (λ r. HaveTaken IsFirstHit job span r 0 (length r) c.as_mut_slice-firsts.result.now
     after) rows_is step.taken) in

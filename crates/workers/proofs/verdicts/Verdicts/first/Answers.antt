@@ -1,5 +1,4 @@
-use Rattle.std.proofs.Common.{length, refl}
-use Rattle.std.proofs.lemmas.Option.{slice_get_read}
+use Rattle.std.proofs.{Common.{length, refl}, lemmas.Option.slice_get_read}
 use Rattle.workers.proofs.verdicts.Verdicts.first.Goals as goal
 
 pub returns : goal.returns

@@ -19,8 +19,7 @@ loop-place-preserved g c =
     let was : ((c.loop-place.place + 1 < c.count-count.result
     → c.loop-place.done + length c.if-place-count.handles.items ≡ c.loop-place.place + 1)
     × (c.loop-place.done + length c.if-place-count.handles.items ≤ c.count-count.result))
-    × AllFrom (λ n h. (h.promise.place ≡ n)
-    × (h.promise.file.value ≡ c.captures.file.now))
+    × AllFrom (λ n h. (h.promise.place ≡ n) × (h.promise.file.value ≡ c.captures.file.now))
     c.loop-place.done c.if-place-count.handles.items = elim c.if-place-count.branch [
       | then-place-count+in-Ok+in_ok-push_back w ↦
           let old = c.loop-place.handles.items in
@@ -66,8 +65,7 @@ loop-place-preserved g c =
           subst (λ n. HasNumbered ns xs n w.join.result) each.0.0
           (subst (λ f. HasNumbered (g.F.StretchedFile.names f) (g.F.StretchedFile.stretches f)
           w.in-Some.handle.promise.place w.join.result) each.0.1 w.join.ensures) in
-          let own : AreOfStretch ns xs done part.0 =
-          subst (HasNumbered ns xs done) part.1 here in
+          let own : AreOfStretch ns xs done part.0 = subst (HasNumbered ns xs done) part.1 here in
           let grown = joined_at xs done own.stretch own.is in
           record {
             waiting = (
@@ -83,11 +81,9 @@ loop-place-preserved g c =
                 (subst (AreNumberedLines ns (joined (take (done + 1) xs)))
                 (sym (ap (λ a. a.lines.items) w.all-is ∙ part.2))
                 (subst (λ l. AreNumberedLines ns l (all.lines.items ++ part.0.lines.items))
-                (sym grown.1)
-                (numbered_append ns (joined (take done xs)) own.stretch.stated.items
+                (sym grown.1) (numbered_append ns (joined (take done xs)) own.stretch.stated.items
                 all.lines.items part.0.lines.items c.loop-place.invariant.numbered own.numbered)));
-            at = ap (λ a. a.at.items) w.all-is
-                ∙ part.3
+            at = ap (λ a. a.at.items) w.all-is ∙ part.3
                 ∙ ap (λ l. l ++ part.0.at.items) c.loop-place.invariant.at
                 ∙ ap (λ l. line_numbers_in (joined (take done xs)) ++ l) own.at
                 ∙ sym (line_numbers_append (joined (take done xs)) own.stretch.stated.items)
@@ -112,8 +108,7 @@ loop-place-preserved g c =
                 c.if-place-most.all.lines.items) (sym w.done-is)
                 (subst (AreNumberedLines ns (joined (take c.loop-place.done xs)))
                 (sym (ap (λ a. a.lines.items) w.all-is)) c.loop-place.invariant.numbered);
-            at = ap (λ a. a.at.items) w.all-is
-                ∙ c.loop-place.invariant.at
+            at = ap (λ a. a.at.items) w.all-is ∙ c.loop-place.invariant.at
                 ∙ ap (λ n. line_numbers_in (joined (take n xs))) (sym w.done-is);
           }
     ]

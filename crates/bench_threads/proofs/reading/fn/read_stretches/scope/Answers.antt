@@ -1,17 +1,16 @@
-use Rattle.std.proofs.Common.{◌≡◌, ◌∙◌, ap, subst, sym}
-use Rattle.std.specs.List.{All}
+use Rattle.std.{proofs.Common.{◌≡◌, ◌∙◌, ap, subst, sym}, specs.List.All}
 use Rattle.std.proofs.lemmas.List.Elements.{All-head, All-push, All-tail}
 use Rattle.bench_net.specs.reader.Parsed.{names_of}
 use Rattle.bench_threads.specs.Stretches.{AreFirst, HasStretch, IsRange}
-use Rattle.bench_threads.proofs.reading.fn.read_stretches.scope.Goals as goal
 use Rattle.bench_threads.proofs.reading.fn.read_stretches.scope.Goals.{
   then-turn-count+in-Ok+in_ok-push_back,
-  else-turn-count,
 }
+use Rattle.bench_threads.proofs.reading.fn.read_stretches.scope.Goals.{else-turn-count}
 use Rattle.bench_threads.proofs.reading.fn.read_stretches.scope.Goals.{
   then-turn-threads+in-Some+in_ok-first-2,
-  else-turn-threads,
 }
+use Rattle.bench_threads.proofs.reading.fn.read_stretches.scope.Goals.{else-turn-threads}
+use Rattle.bench_threads.proofs.reading.fn.read_stretches.scope.Goals as goal
 
 pub with-requires : goal.with-requires
 with-requires g c =
@@ -22,8 +21,7 @@ with-requires g c =
           (sym (ap (λ d. d.items) w.handles-is ∙ w.in_ok-push_back.ensures.items))
           (All-push (λ h. h.promise.text.now ≡ c.captures.text.now) c.loop-turn.handles.items
           w.in-Ok.handle c.loop-turn.invariant.each (ap (λ p. p.text.now) w.in-Ok.ensures.ok))
-      | else-turn-count w ↦
-          subst (All (λ h. h.promise.text.now ≡ c.captures.text.now))
+      | else-turn-count w ↦ subst (All (λ h. h.promise.text.now ≡ c.captures.text.now))
           (sym (ap (λ d. d.items) w.handles-is)) c.loop-turn.invariant.each
     ] in
     let own = All-head (λ h. h.promise.text.now ≡ c.captures.text.now) c.in-Some.handle

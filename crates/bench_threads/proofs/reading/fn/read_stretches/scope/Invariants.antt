@@ -1,5 +1,4 @@
-use Rattle.std.proofs.Common.{◌≡◌}
-use Rattle.std.specs.List.{All}
+use Rattle.std.{proofs.Common.◌≡◌, specs.List.All}
 use Rattle.bench_net.specs.reader.Parsed.{names_of}
 use Rattle.bench_threads.specs.Stretches.{AreFirst, IsRange}
 use Rattle.bench_threads.proofs.reading.fn.read_stretches.scope.Given as goal

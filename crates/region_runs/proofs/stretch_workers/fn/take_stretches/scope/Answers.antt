@@ -1,8 +1,7 @@
 use Rattle.std.proofs.Common.{rules, arith, below_more, ◌≡◌, ◌<◌, ◌+◌, get_or, vec_items, vec_len}
-use Rattle.std.proofs.Common.{sym, subst, ap, ◌∙◌, length, suc}
+use Rattle.std.proofs.{Common.{sym, subst, ap, ◌∙◌, length, suc}, iter.Serving.serving}
 use Rattle.std.specs.Vec.Iter.{into_iter_items, into_iter_len}
 use Rattle.std.proofs.lemmas.Option.{get_or_from_slice_get, slice_get_within}
-use Rattle.std.proofs.iter.Serving.{serving}
 use Rattle.fault_ledger.specs.Seats.{newcomer}
 use Rattle.workers.proofs.Public.{own_newcomer}
 use Rattle.region_runs.specs.Tasks.{task_of}
@@ -49,15 +48,13 @@ loop-seat-preserved g c =
           let n : done + suc k ≡ vec_len c.push.new.self + k = omega (arith, grown) in
           let same = ap (λ l. get_or l (suc k) d) step.0 in
           sym same ∙ h ∙ ap (newcomer ledger) n;
-      each = λ k d lt.
-          below_more (λ i. let p = (get_or (vec_items c.push.new.self) i d).promise in
+      each = λ k d lt. below_more (λ i. let p = (get_or (vec_items c.push.new.self) i d).promise in
           (p.job.value ≡ job) × (p.ledger.value ≡ ledger) × (p.gate.value ≡ gate)
           × (p.worker ≡ i) × (p.cut.value ≡ cut) × (p.goal.value ≡ aim)) done
           (λ i low. subst (λ x. (x.promise.job.value ≡ job) × (x.promise.ledger.value ≡ ledger)
           × (x.promise.gate.value ≡ gate) × (x.promise.worker ≡ i)
           × (x.promise.cut.value ≡ cut) × (x.promise.goal.value ≡ aim)) (sym (by.0 i d low))
-          (was.each i d low))
-          (let at = by.1 d (search rules) in (
+          (was.each i d low)) (let at = by.1 d (search rules) in (
             ap (λ x. x.promise.job.value) at ∙ ap (λ p. p.job.value) promised ∙ c.of.ensures,
             ap (λ x. x.promise.ledger.value) at ∙ ap (λ p. p.ledger.value) promised
                 ∙ c.of-in-loop-seat-2.ensures,
@@ -69,8 +66,7 @@ loop-seat-preserved g c =
                 ∙ c.of-in-loop-seat.ensures,
             ap (λ x. x.promise.goal.value) at ∙ ap (λ p. p.goal.value) promised
                 ∙ c.of-in-loop-seat-3.ensures,
-          ))
-          k (omega (arith, lt, grown));
+          )) k (omega (arith, lt, grown));
     }
 
 pub spawn_with-requires-clause-runs : goal.spawn_with-requires-clause-runs
@@ -114,8 +110,7 @@ returns g c =
             let k = (c.in_ok-back.ensures.each w one low).1 in
             let i = was.each w k.handle low in
             served_along (λ j u v. task_of j u.from (g.A.Goal.wants v) (g.A.Goal.means v))
-            (get_or c.in_ok-back.back.items w one) one
-            k.handle.promise.job.value c.captures.job.now
+            (get_or c.in_ok-back.back.items w one) one k.handle.promise.job.value c.captures.job.now
             k.handle.promise.goal.value c.captures.goal.now
             k.handle.promise.cut.value c.captures.cut.now
             k.handle.promise.ledger.value c.captures.ledger.now k.handle.promise.worker w
@@ -128,12 +123,10 @@ returns g c =
             (ap (λ x. x.promise.ledger.value) k.handle_is ∙ i.1)
             (ap (λ x. x.promise.worker) k.handle_is ∙ i.3)
             (λ p. subst (λ x. g.G.Gate.passing x) (sym (ap (λ x. x.promise.gate.value) k.handle_is
-            ∙ i.2)) p)
-            (λ u class block s. subst (λ x. (g.G.Gate.stops x).may u class block)
+            ∙ i.2)) p) (λ u class block s. subst (λ x. (g.G.Gate.stops x).may u class block)
             (ap (λ x. x.promise.gate.value) k.handle_is ∙ i.2) s)
             (λ u class block s. subst (λ x. (g.G.Gate.stops x).must u class block)
-            (sym (ap (λ x. x.promise.gate.value) k.handle_is ∙ i.2)) s)
-            k.kept;
+            (sym (ap (λ x. x.promise.gate.value) k.handle_is ∙ i.2)) s) k.kept;
       };
       refused = tt;
     }

@@ -1,12 +1,9 @@
 use Rattle.std.proofs.Common.{◌≡◌, ◌<◌, ◌∙◌, ◌*◌, ◌+◌, ◌++◌, ◌∷◌, [], ℕ, Global, List, Vec, ap}
-use Rattle.std.proofs.Common.{arith, get_or, length, map, subst, sym, vec_len}
-use Rattle.std.proofs.Math.Nat.{add-mul}
+use Rattle.std.proofs.{Common.{arith, get_or, length, map, subst, sym, vec_len}, Math.Nat.add-mul}
 use Rattle.std.specs.Prelude.{Err, IfOk, Ok, Result, flat_map, min}
-use Rattle.std.specs.declared.alloc.AllocError.{AllocError}
-use Rattle.std.specs.declared.thread.PromisedHandle.{PromisedHandle}
+use Rattle.std.specs.declared.{alloc.AllocError.AllocError, thread.PromisedHandle.PromisedHandle}
 use Rattle.threaded_lines.specs.Texts.{joined, text_between}
-use Rattle.table_rows.specs.declared.table.TextOf.{TextOf}
-use Rattle.table_rows.specs.Table.{row_texts}
+use Rattle.table_rows.specs.{declared.table.TextOf.TextOf, Table.row_texts}
 use Rattle.table_rows.proofs.Stretches.{all_between, each_pushed, next_cut, same_stretch}
 use Rattle.table_rows.proofs.Stretches.{stretches_joined, texts_counted}
 use Rattle.table_rows.proofs.table.fn.share_rows.scope.Goals as goal
@@ -25,10 +22,8 @@ loop-thread-preserved g c =
     let ended : c.loop-thread.start + c.min.result ≡ min ((n + 1) * size) count =
     omega (arith, was.low, next, all, c.min.ensures) in
     let P = λ (k : ℕ) (h : PromisedHandle (Result (Vec ℕ Global) AllocError)
-    (TextOf g.row.T.Denot)).
-    (h.promise.rows.value ≡ rows) × (h.promise.format ≡ c.captures.format)
-    × (h.promise.start ≡ min (k * size) count)
-    × (h.promise.end ≡ min ((k + 1) * size) count) in
+    (TextOf g.row.T.Denot)). (h.promise.rows.value ≡ rows) × (h.promise.format ≡ c.captures.format)
+    × (h.promise.start ≡ min (k * size) count) × (h.promise.end ≡ min ((k + 1) * size) count) in
     let own : P n c.in-Ok.handle = (
       ap (λ p. p.rows.value) promise ∙ c.of.ensures,
       ap (λ p. p.format) promise,
@@ -38,8 +33,7 @@ loop-thread-preserved g c =
     let long : n ≡ length old.items = omega (arith, old.ok.0) in
     let longer : vec_len c.push.new.self ≡ n + 1 = omega (arith, c.in_ok-push.ensures.len) in
     let pushed = each_pushed P old.items c.in-Ok.handle
-    (λ k d lt. was.each k d (omega (arith, lt, long)))
-    (subst (λ m. P m c.in-Ok.handle) long own) in
+    (λ k d lt. was.each k d (omega (arith, lt, long))) (subst (λ m. P m c.in-Ok.handle) long own) in
     record {
       low = ended ∙ ap (λ m. min (m * size) count) (sym longer);
       each = λ k d lt. subst (λ hs. P k (get_or hs k d)) (sym c.in_ok-push.ensures.items)
@@ -79,8 +73,7 @@ returns g c =
     let long = c.count-count.ensures in
     let theirs : (i : ℕ) (d : Result (Vec ℕ Global) AllocError) → i < n
     → IfOk (get_or joined.parts.items i d) (λ text. text.items
-    ≡ text_between ts (min (i * size) count) (min ((i + 1) * size) count)) =
-    λ i d lt.
+    ≡ text_between ts (min (i * size) count) (min ((i + 1) * size) count)) = λ i d lt.
     let k = (joined.ensures.each i d lt).1 in
     let at = was.each i k.handle lt in
     let same_rows = ap (λ h. h.promise.rows.value) k.handle_is ∙ at.0 in

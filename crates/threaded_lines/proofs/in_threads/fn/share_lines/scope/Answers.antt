@@ -1,8 +1,7 @@
 use Rattle.std.proofs.Common.{◌≡◌, ◌<◌, ◌≤◌, ◌∙◌, ℕ, ap, arith, length, subst, List}
 use Rattle.std.specs.Prelude.{Result, Some, slice_get}
 use Rattle.byte_output.specs.declared.OutFailed.{OutFailed}
-use Rattle.threaded_lines.specs.declared.in_threads.Stretch.{Stretch}
-use Rattle.threaded_lines.specs.Stretches.{HasStretch}
+use Rattle.threaded_lines.specs.{declared.in_threads.Stretch.Stretch, Stretches.HasStretch}
 use Rattle.threaded_lines.proofs.LinesOfStretches.{each_and_one, each_of_pushed, of_each}
 use Rattle.threaded_lines.proofs.in_threads.fn.share_lines.scope.Goals as goal
 
@@ -12,8 +11,7 @@ loop-thread-preserved g c =
     let old = c.loop-thread.handles in
     record {
       low = subst (λ n. c.end_of-start.result ≤ n) c.count.ensures c.end_of-start.ensures.within;
-      each = λ k d lt.
-          each_of_pushed (λ h. h.promise.lines.value ≡ c.captures.lines.now) old.items
+      each = λ k d lt. each_of_pushed (λ h. h.promise.lines.value ≡ c.captures.lines.now) old.items
           c.push.new.self.items c.in-Ok.handle c.in_ok-push.ensures.items
           (λ i e less. was.each i e (omega (arith, less, old.ok.0)))
           (ap (λ p. p.lines.value) c.in-Ok.ensures.ok ∙ c.of.ensures) k d

@@ -1,8 +1,7 @@
 use Rattle.std.proofs.Common.{rules, arith, below_more, ◌≡◌, ◌<◌, ◌+◌, get_or, vec_items, vec_len}
-use Rattle.std.proofs.Common.{sym, subst, ap, ◌∙◌, length, suc}
+use Rattle.std.proofs.{Common.{sym, subst, ap, ◌∙◌, length, suc}, iter.Serving.serving}
 use Rattle.std.specs.Vec.Iter.{into_iter_items, into_iter_len}
 use Rattle.std.proofs.lemmas.Option.{get_or_from_slice_get, slice_get_within}
-use Rattle.std.proofs.iter.Serving.{serving}
 use Rattle.block_sim.specs.Parts.{HasRoom}
 use Rattle.fault_ledger.specs.Seats.{newcomer}
 use Rattle.workers.proofs.ThreadHandles.{workers_count, seat_at, fits_at, own_newcomer}
@@ -53,14 +52,12 @@ loop-worker-preserved g c =
             ap (λ x. x.seat) (sym same) ∙ h.0 ∙ ap (newcomer ledger) n,
             subst (λ x. HasRoom x.workspace job) same h.1,
           );
-      each = λ k d lt.
-          below_more (λ i. let p = (get_or (vec_items c.push.new.self) i d).promise in
+      each = λ k d lt. below_more (λ i. let p = (get_or (vec_items c.push.new.self) i d).promise in
           (p.job.value ≡ job) × (p.ledger.value ≡ ledger) × (p.gate.value ≡ gate)
           × (p.worker ≡ i)) done
           (λ i low. subst (λ x. (x.promise.job.value ≡ job) × (x.promise.ledger.value ≡ ledger)
           × (x.promise.gate.value ≡ gate) × (x.promise.worker ≡ i))
-          (sym (by.0 i d low)) (was.each i d low))
-          (let at = by.1 d (search rules) in (
+          (sym (by.0 i d low)) (was.each i d low)) (let at = by.1 d (search rules) in (
             ap (λ x. x.promise.job.value) at ∙ ap (λ p. p.job.value) promised ∙ c.of.ensures,
             ap (λ x. x.promise.ledger.value) at ∙ ap (λ p. p.ledger.value) promised
                 ∙ c.of-in-loop-worker.ensures,
@@ -68,8 +65,7 @@ loop-worker-preserved g c =
                 ∙ c.of-in-loop-worker-2.ensures,
             ap (λ x. x.promise.worker) at ∙ ap (λ p. p.worker) promised ∙ c.worker.ensures.worker
                 ∙ ap (λ s. s.worker) seat ∙ omega arith,
-          ))
-          k (omega (arith, lt, grown));
+          )) k (omega (arith, lt, grown));
     }
 
 pub spawn_with-requires-clause-runs : goal.spawn_with-requires-clause-runs
@@ -115,8 +111,7 @@ returns g c =
             let k = (c.in_ok-back.ensures.each w seat low).1 in
             let i = was.each w k.handle low in
             returns_along k.handle.promise.job.value c.captures.job.now
-            k.handle.promise.ledger.value
-            c.captures.ledger.now k.handle.promise.worker w
+            k.handle.promise.ledger.value c.captures.ledger.now k.handle.promise.worker w
             (g.G.Gate.passing k.handle.promise.gate.value) (g.G.Gate.passing c.captures.gate.now)
             (g.G.Gate.stops k.handle.promise.gate.value) (g.G.Gate.stops c.captures.gate.now)
             (get_or c.in_ok-back.back.items w seat) seat
@@ -124,11 +119,9 @@ returns g c =
             (ap (λ x. x.promise.ledger.value) k.handle_is ∙ i.1)
             (ap (λ x. x.promise.worker) k.handle_is ∙ i.3)
             (λ p. subst (λ x. g.G.Gate.passing x) (sym (ap (λ x. x.promise.gate.value) k.handle_is
-            ∙ i.2)) p)
-            (λ u class block s. subst (λ x. (g.G.Gate.stops x).may u class block)
+            ∙ i.2)) p) (λ u class block s. subst (λ x. (g.G.Gate.stops x).may u class block)
             (ap (λ x. x.promise.gate.value) k.handle_is ∙ i.2) s)
-            (get_or_from_slice_get c.in_ok-back.back.items w seat seat e)
-            k.kept;
+            (get_or_from_slice_get c.in_ok-back.back.items w seat seat e) k.kept;
       };
       refused = tt;
     }
