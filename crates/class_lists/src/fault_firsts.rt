@@ -3,6 +3,7 @@
 ghost use Rattle.std.specs.Prelude.{◌≡◌, ◌^◌, ◌<◌, ℕ, IfOk, None, Some, length, map, slice_get};
 ghost use Rattle.std.specs.Prelude.{slice_index_or};
 
+use crate::list_order::value_at;
 use block_sim::Job;
 use std::alloc::{AllocError, Global};
 
@@ -34,17 +35,7 @@ pub(crate) fn firsts_of(
     let classes = job.classes();
     let mut firsts = Vec::with_capacity(alloc, job.faults().count() as usize)?;
     for fault in 0..job.faults().count() {
-        firsts.push(first_at(found, classes.class_of(fault)))?;
+        firsts.push(value_at(found, classes.class_of(fault), None))?;
     }
     Ok(firsts)
-}
-
-/// Returns the first test at a position, or none past the last.
-pub(crate) fn first_at(found: &[Option<u32>], position: u32) -> Option<u32>
-    ensures { result ≡ slice_index_or found.now position None }
-{
-    match found.get(position as usize) {
-        Some(first) => *first,
-        None => None,
-    }
 }

@@ -1,15 +1,14 @@
 //! The simulation of lists of classes of a job, one list after another.
 
-ghost use Rattle.std.specs.Prelude.{◌≡◌, ◌^◌, ◌<◌, All, IfOk, None, length, map, slice_index_or};
+ghost use Rattle.std.specs.Prelude.{◌^◌, ◌<◌, All, IfOk, length};
 ghost use Rattle.flat_circuit.specs.BlockSpans.{groups};
 ghost use Rattle.workers.specs.Verdict.{AreClassFirsts, AreFirsts};
 ghost use Rattle.n_detect.specs.ListLanes.{AreListLanes};
 ghost use Rattle.class_lists.specs.Lists.{AreClassCounts, ServesClasses};
-ghost use Rattle.class_lists.specs.Orders.{numbers_at};
 
 use crate::count::counts_of;
-use crate::fault_firsts::{all_classes, first_at, firsts_of};
-use crate::list_order::{number_at, order_of};
+use crate::fault_firsts::{all_classes, firsts_of};
+use crate::list_order::order_of;
 use block_sim::Job;
 use n_detect::list_lanes;
 use region_runs::run_alone;
@@ -61,8 +60,9 @@ impl ListSimulation {
     }
 
     /// Returns for each class of a list the first test that detects its faults, or none if no test
-    /// does. The list may have any order, and name a class more than once. Classes of a region are
-    /// simulated together.
+    /// does. The list may have any order, and name a class more than once. Adjacent classes of a
+    /// region are simulated together; a list of more than 256 classes is put in the order of
+    /// regions first.
     ///
     /// Beside the simulation it takes a few numbers for each class of the list. Only for a list of
     /// a sixteenth of all classes and more does it take some time for each class of the job.
@@ -81,7 +81,7 @@ impl ListSimulation {
     {
         let count = job.classes().count();
         let order = order_of(alloc, self.ranks.as_slice(), count, classes)?;
-        let listed = order.classes.as_slice();
+        let listed = order.listed(classes);
         let first_unit = self.first_unit;
         let found = run_alone(
             alloc,
@@ -91,8 +91,8 @@ impl ListSimulation {
             &mut self.regions,
             &FirstTest,
         )?;
-        let firsts = firsts_at(alloc, found.as_slice(), order.positions.as_slice())?;
         self.first_unit = unit_after(found.as_slice());
+        let firsts = order.put_back(alloc, found, None)?;
         Ok(firsts)
     }
 
@@ -133,9 +133,9 @@ impl ListSimulation {
     {
         let count = job.classes().count();
         let order = order_of(alloc, self.ranks.as_slice(), count, classes)?;
-        let listed = order.classes.as_slice();
+        let listed = order.listed(classes);
         let found = counts_of(alloc, job, listed, &mut self.regions, most)?;
-        let counts = counts_at(alloc, found.as_slice(), order.positions.as_slice())?;
+        let counts = order.put_back(alloc, found, 0)?;
         Ok(counts)
     }
 
@@ -159,9 +159,9 @@ impl ListSimulation {
     {
         let count = job.classes().count();
         let order = order_of(alloc, self.ranks.as_slice(), count, classes)?;
-        let listed = order.classes.as_slice();
+        let listed = order.listed(classes);
         let found = list_lanes(alloc, job, listed, group, &mut self.regions)?;
-        let lanes = words_at(alloc, found.as_slice(), order.positions.as_slice())?;
+        let lanes = order.put_back(alloc, found, 0)?;
         Ok(lanes)
     }
 }
@@ -174,50 +174,5 @@ fn unit_after(firsts: &[Option<u32>]) -> FirstUnit {
         FirstUnit::AtOnce
     } else {
         FirstUnit::InBlocks
-    }
-}
-
-/// Returns the first tests at these positions.
-fn firsts_at(
-    alloc: Global,
-    found: &[Option<u32>],
-    positions: &[u32],
-) -> Result<Vec<Option<u32>>, AllocError>
-    ensures { IfOk result (λ firsts.
-        firsts.items ≡ map (λ position. slice_index_or found.now position None) positions.now) }
-{
-    positions
-        .iter()
-        .map(|position| first_at(found, *position))
-        .collect(alloc)
-}
-
-/// Returns the counts at these positions.
-fn counts_at(alloc: Global, found: &[u32], positions: &[u32]) -> Result<Vec<u32>, AllocError>
-    ensures { IfOk result (λ counts. counts.items ≡ numbers_at found.now positions.now) }
-{
-    positions
-        .iter()
-        .map(|position| number_at(found, *position))
-        .collect(alloc)
-}
-
-/// Returns the words at these positions.
-fn words_at(alloc: Global, found: &[u128], positions: &[u32]) -> Result<Vec<u128>, AllocError>
-    ensures { IfOk result (λ words. words.items ≡ numbers_at found.now positions.now) }
-{
-    positions
-        .iter()
-        .map(|position| word_at(found, *position))
-        .collect(alloc)
-}
-
-/// Returns the word at a position, or 0 past the last.
-fn word_at(found: &[u128], position: u32) -> u128
-    ensures { result ≡ slice_index_or found.now position 0 }
-{
-    match found.get(position as usize) {
-        Some(word) => *word,
-        None => 0,
     }
 }

@@ -12,9 +12,9 @@ loop-fault-preserved c =
     record {
       count = c.in_ok-push.ensures.len ∙ ap (λ n. n + 1) c.loop-fault.invariant.count;
       each = c.in_ok-push.ensures.items
-          ∙ ap (λ xs. xs ++ c.first_at.result ∷ []) c.loop-fault.invariant.each
+          ∙ ap (λ xs. xs ++ c.value_at.result ∷ []) c.loop-fault.invariant.each
           ∙ ap (λ x. map g (take c.loop-fault.fault c.args.job.now.classes.class_of) ++ x ∷ [])
-          c.first_at.ensures
+          c.value_at.ensures
           ∙ take_more g c.args.job.now.classes.class_of c.loop-fault.fault c.class_of.result at
           ∙ ap (λ n. map g (take n c.args.job.now.classes.class_of))
           (sym (add-one c.loop-fault.fault));
