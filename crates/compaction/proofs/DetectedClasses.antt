@@ -7,7 +7,7 @@ use Rattle.std.proofs.lemmas.List.{get_or_past, get_or-map, length-map}
 use Rattle.std.specs.Prelude.{Option, Some, slice_get, slice_index, unwrap_or}
 use Rattle.std.specs.declared.vec.Vec.{Vec}
 use Rattle.std.proofs.lemmas.Option.{get_or_from_slice_get, slice_get-get_or, slice_get_within}
-use Rattle.flat_circuit.{proofs.Public.lane_zero, specs.BlockSpans.groups, specs.Words.lane}
+use Rattle.flat_circuit.{proofs.Public.lane_zero, specs.Words.lane}
 use Rattle.list_lemmas.proofs.Places.{within_place}
 use Rattle.fault_model.specs.{Collapse.representatives, Detection.DetectsAt, Fault.{Fault, faults}}
 use Rattle.block_sim.specs.Parts.{BelongTogether, Parts}

@@ -1,33 +1,30 @@
--- The last tests of the classes of a job.
+-- The last tests of the classes of a job, taken from the last test on.
 use Rattle.std.proofs.Common.{◌≡◌, ◌<◌, ◌≤◌, ◌+◌, ◌-◌, ◌*◌, ◌^◌, ◌==◌, ◌∙◌, ◌⊎◌, ℕ, suc, Bool, true}
-use Rattle.std.proofs.Common.{false, List, ap, arith, get_or, inl, inr, length, refl, subst, sym}
-use Rattle.std.{specs.Int.bit_at, specs.Prelude.{slice_get, slice_index}, proofs.Math.Nat.pow-succ'}
-use Rattle.std.specs.Prelude.{slice_index_or, unwrap_or, ◌||◌, Contains, None, Option, Some}
+use Rattle.std.proofs.Common.{false, List, ap, arith, get_or, inl, inr, length, refl, subst}
+use Rattle.std.{proofs.Common.{replicate, sym}, proofs.lemmas.List.get_or-replicate}
+use Rattle.std.proofs.lemmas.List.{get_or_past, length-replicate}
+use Rattle.std.{specs.Int.bit_at, specs.Prelude.slice_get, proofs.Math.Nat.pow-succ'}
+use Rattle.std.specs.Prelude.{Contains, None, Option, Some, unwrap_or}
+use Rattle.std.specs.Bool.{Decides}
 use Rattle.std.proofs.lemmas.Bool.{cases_lt, false≢true, cases_Bool as bit_cases}
 use Rattle.std.proofs.lemmas.Nat.Bits.{bit_at_above, bit_at_cat_high}
 use Rattle.std.proofs.lemmas.Option.{get_or_from_slice_get, slice_get-get_or, slice_get_within}
 use Rattle.list_lemmas.proofs.Places.{place_within, within_place}
-use Rattle.counting_sort.specs.SortedPlaces.{ArePositions}
-use Rattle.fault_model.specs.{Collapse.{IsClassOf, representatives}, Detection.DetectsAt}
+use Rattle.fault_model.specs.{Collapse.{Collapsed, representatives}, Detection.DetectsAt}
 use Rattle.fault_model.{specs.Fault.{Fault, faults}, proofs.Public.own_class}
-use Rattle.patterns.specs.Tests.{blocks}
-use Rattle.block_sim.{specs.Parts.{BelongTogether, Parts}, proofs.Public.which_detect}
-use Rattle.flat_circuit.{specs.Words.lane, proofs.Public.{lane_zero, representative_at}}
+use Rattle.patterns.specs.Tests.{TestList, blocks}
+use Rattle.block_sim.specs.Parts.{BelongTogether, Parts, with_tests}
+use Rattle.block_sim.proofs.Public.{which_detect}
+use Rattle.flat_circuit.{specs.Words.lane, proofs.Public.lane_zero}
 use Rattle.region_sim.specs.Goals.{AreHits, TellHits}
-use Rattle.region_runs.{specs.Tasks.{AreKept, task_of}, proofs.Public.some_hits as class_hits}
-use Rattle.compaction.specs.{Compaction.{IsLastForSome, is_first}, LastHits.IsLastHit}
+use Rattle.region_runs.{specs.Tasks.{AreKept, task_of}, proofs.Public.{looks_down, looks_up}}
+use Rattle.region_runs.specs.Windows.{IsWindowOf}
+use Rattle.region_sim.specs.ClassOrder.{AreAllByRegion}
+use Rattle.compaction.specs.{Compaction.IsLastForSome, LastHits.IsLastHit}
 use Rattle.compaction.{specs.LastHitLaws.last_unchanged, proofs.DetectedClasses.class_count}
-use Rattle.compaction.specs.Marks.{AreLastAt, AreLasting, IsLast, IsLastOfClass}
-use Rattle.compaction.proofs.KeptTests.{first_own, or_cases, or_left, or_right, own_first}
+use Rattle.compaction.specs.Marks.{AreLasting, IsLast, IsLastOfClass}
+use Rattle.compaction.specs.Turns.{AreLastFrom, AreLeftOpen, HaveMarked, IsNextEnd, NoneFrom}
 use Rattle.compaction.proofs.OrderedTests.{as_class, as_fault, class_of}
-
--- the last tests of the first classes of a job are marked
-pub record AreLastMarks (job : Parts) (classes : ℕ) (marks : List Bool) : Type 0 where
-  pub count : length marks ≡ length job.tests.tests
-  pub some : (t : ℕ) → t < length job.tests.tests → slice_index_or marks t false ≡ true
-      → (class : ℕ) × (class < classes) × IsLastOfClass job class (Some t)
-  pub all : (class : ℕ) → class < classes → (last : Option ℕ) × IsLastOfClass job class last
-      × ((t : ℕ) → last ≡ Some t → slice_index_or marks t false ≡ true)
 
 -- ---- lanes of a word
 
@@ -91,169 +88,275 @@ module _ (hits : ℕ → Bool) (first low from to word : ℕ) (le : low ≤ from
           (ap hits same ∙ on) (inl refl) in
           absurd (false≢true (sym (ap (λ w. lane w j) none ∙ lane_zero j) ∙ lit))
 
--- ---- the last test of a class
+-- ---- the tests of a turn
 
--- the last hit of all tests is the last test
-last_is : (job : Parts) (class : ℕ) (hits : ℕ → Bool) (h : AreHits job class hits)
-    (last : Option ℕ) → IsLastHit hits 0 (64 * blocks (length job.tests.tests)) last
-    → IsLast job.circuit job.tests.tests h.0 last
-last_is job class hits h None is = λ t d.
-    let lt = slice_get_within job.tests.tests t d.0 d.1 in
-    false≢true (sym (is t (omega arith) (omega (arith, lt))) ∙ (h.2 t).1 d)
-last_is job class hits h (Some s) is = (
-  (h.2 s).0 is.2,
-  λ later after d.
-      let lt = slice_get_within job.tests.tests later d.0 d.1 in
-      false≢true (sym (is.3 later after (omega (arith, lt))) ∙ (h.2 later).1 d),
-)
+module _ (p : Parts) (all some : TestList) (b : BelongTogether p) (start end half : ℕ)
+    (of : IsWindowOf all.tests start end some.tests) (even : start ≡ 2 * half) where
+  -- what a test of the turn detects, the test of the list detects
+  up : (f : Fault) (k : ℕ) → DetectsAt p.circuit some.tests f k
+      → DetectsAt p.circuit all.tests f (start + k)
+  up f k d =
+      let lt = slice_get_within some.tests k d.0 d.1 in (
+        d.0,
+        sym (of.each k lt) ∙ d.1,
+        d.2,
+        looks_up p.circuit all.tests some.tests start end f.model f.line f.stuck half k of even lt
+            d.3,
+      )
 
--- what a run keeps of all classes is the last test of each at its position
-pub lasts_at : (job : Parts) (classes positions : List ℕ) (lasts : List (Option ℕ))
-    → BelongTogether job → ArePositions classes positions
-    → length positions ≡ length job.classes.representative
-    → AreKept (task_of job 0 (λ _. true) IsLastHit) classes lasts → AreLastAt job positions lasts
-lasts_at job classes positions lasts b placed long are = record {
-  count = long;
-  within = λ class lt.
-      let low = slice_get_within classes (slice_index positions class) class (there class lt) in
-      let same = are.count in
-      omega (arith, low, same);
-  each = λ class last lt at.
-      let h = class_hits job b class lt in (
-        h.1.0,
-        h.1.1,
-        last_is job class h.0 h.1 last
-            (are.each h.0 (slice_index positions class) class last (there class lt) at h.1),
-      );
-}
-  where
-    there : (class : ℕ) → class < length job.classes.representative
-        → slice_get classes (slice_index positions class) ≡ Some class
-    there class lt = placed.each class (omega (arith, lt, long))
-
--- ---- the marks of the last tests
-
-last_within : (job : Parts) (class : ℕ) (last : Option ℕ) (t : ℕ) → IsLastOfClass job class last
-    → last ≡ Some t → t < length job.tests.tests
-last_within job class last t is e =
-    let own = subst (λ o. IsLast job.circuit job.tests.tests is.0 o) e is.2 in
-    slice_get_within job.tests.tests t own.0.0 own.0.1
-
-pub marks_more : (job : Parts) (class : ℕ) (old new : List Bool) (last : Option ℕ)
-    → AreLastMarks job class old → IsLastOfClass job class last → length new ≡ length old
-    → ((t : ℕ) → t < length old → get_or new t false ≡ (get_or old t false || is_first t last))
-    → AreLastMarks job (class + 1) new
-marks_more job class old new last are is same each = record {
-  count = same ∙ are.count;
-  some = λ t lt on. some t lt (or_cases (get_or old t false) (is_first t last)
-      (sym (each t (omega (arith, lt, are.count))) ∙ on));
-  all = λ k lt. all k lt (cases_lt k class);
-}
-  where
-    some : (t : ℕ) → t < length job.tests.tests
-        → (get_or old t false ≡ true) ⊎ (is_first t last ≡ true)
-        → (k : ℕ) × (k < class + 1) × IsLastOfClass job k (Some t)
-    some t lt (inl on) =
-        let own = are.some t lt on in
-        let low = own.1 in
-        (own.0, omega (arith, low), own.2)
-    some t lt (inr e) =
-        (class, omega arith, subst (IsLastOfClass job class) (own_first t last e) is)
-
-    all : (k : ℕ) → k < class + 1 → (k < class) ⊎ (class ≤ k)
-        → (last : Option ℕ) × IsLastOfClass job k last
-        × ((t : ℕ) → last ≡ Some t → get_or new t false ≡ true)
-    all k lt (inl low) =
-        let own = are.all k low in (
+  -- and the other way round, but for the first test of a turn
+  down : (f : Fault) (t : ℕ) → start ≤ t → t < end → (start ≡ 0) ⊎ (start < t)
+      → DetectsAt p.circuit all.tests f t
+      → (k : ℕ) × (start + k ≡ t) × DetectsAt p.circuit some.tests f k
+  down f t le lt after d =
+      let k = t - start in
+      let same : start + k ≡ t = omega (arith, le) in
+      let own = subst (DetectsAt p.circuit all.tests f) (sym same) d in
+      let low = of.all t d.0 lt d.1 in
+      let small : k < length some.tests = omega (arith, low, le) in (
+        k,
+        same,
+        (
           own.0,
-          own.1,
-          λ t e.
-              let within = last_within job k own.0 t own.1 e in
-              each t (omega (arith, within, are.count))
-              ∙ or_left (get_or old t false) (is_first t last) (own.2 t e),
-        )
-    all k lt (inr past) =
-        let here : class ≡ k = omega (arith, lt, past) in (
-          last,
-          subst (λ n. IsLastOfClass job n last) here is,
-          λ t e.
-              let within = last_within job class last t is e in
-              each t (omega (arith, within, are.count))
-              ∙ or_right (get_or old t false) (is_first t last) (ap (is_first t) e ∙ first_own t),
-        )
+          of.each k small ∙ own.1,
+          own.2,
+          looks_down p.circuit all.tests some.tests start end f.model f.line f.stuck half k of even
+              small (back after) own.3,
+        ),
+      )
+    where
+      back : (start ≡ 0) ⊎ (start < t) → (start ≡ 0) ⊎ (0 < t - start)
+      back (inl zero) = inl zero
+      back (inr less) = inr (omega (arith, less))
 
-pub marks_lasting : (job : Parts) (classes : ℕ) (marks : List Bool) → BelongTogether job
-    → length job.classes.representative ≤ classes → AreLastMarks job classes marks
-    → AreLasting job.list.model job.circuit job.tests.tests marks
-marks_lasting job classes marks b count are =
-    record { count = are.count; last = last; found = found }
-  where
-    last : (t : ℕ) → slice_get marks t ≡ Some true
-        → IsLastForSome job.list.model job.circuit job.tests.tests t
-    last t mark =
-        let lt = slice_get_within marks t true mark in
-        let own = are.some t (omega (arith, lt, are.count))
-        (get_or_from_slice_get marks t true false mark) in
-        let of = own.2 in
-        (of.0, (own_class job.list.model job.circuit of.0 own.0 of.1).1, of.2.0, of.2.1)
+  module _ (class : ℕ) (r : Fault)
+      (at : slice_get (representatives p.list.model p.circuit) class ≡ Some r)
+      (none : NoneFrom (with_tests p all) class end) where
+    none_after : (t : ℕ) → end ≤ t → ¬ DetectsAt p.circuit all.tests r t
+    none_after t le d =
+        let w = which_detect p.list.model p.circuit all.tests class r b.circuit.well_formed at in
+        false≢true (sym (none w.0 (r, at, w.1) t le) ∙ (w.1 t).1 d)
 
-    found : (f : Fault) (t : ℕ) → Contains (faults job.list.model job.circuit) f
-        → DetectsAt job.circuit job.tests.tests f t
-        → (s : ℕ) × DetectsAt job.circuit job.tests.tests f s × (slice_get marks s ≡ Some true)
-    found f t listed d =
-        let of = class_of job f b listed in
-        let r = of.1.0 in
-        let low = place_within (representatives job.list.model job.circuit) of.0 r of.1.3 in
-        let all = are.all of.0 (omega (arith, low, class_count job b, count)) in
-        let same : r ≡ all.1.0 = ap (λ o. unwrap_or o all.1.0) (sym of.1.3 ∙ all.1.1) in
-        let there = subst (λ g. DetectsAt job.circuit job.tests.tests g t) same
-        (as_class job f of.0 job.tests.tests t b of.1 d) in
-        go of.0 of.1 all.0 all.1.0 same all.1.2 all.2 there
+    module _ (own : ℕ → Bool) (is : (k : ℕ) → Decides (own k) (DetectsAt p.circuit some.tests r k))
       where
-        go : (class : ℕ) (of : IsClassOf job.list.model job.circuit f class) (o : Option ℕ)
-            (g : Fault) → of.0 ≡ g → IsLast job.circuit job.tests.tests g o
-            → ((s : ℕ) → o ≡ Some s → get_or marks s false ≡ true)
-            → DetectsAt job.circuit job.tests.tests g t
-            → (s : ℕ) × DetectsAt job.circuit job.tests.tests f s × (slice_get marks s ≡ Some true)
-        go class of None g same is marked there = absurd (is t there)
-        go class of (Some s) g same is marked there =
-            let lt = slice_get_within job.tests.tests s is.0.0 is.0.1 in (
-              s,
-              as_fault job f class job.tests.tests s b of
-                  (subst (λ h. DetectsAt job.circuit job.tests.tests h s) (sym same) is.0),
-              slice_get-get_or marks s false (omega (arith, lt, are.count))
-                  ∙ ap Some (marked s refl),
+        -- the last hit of the turn is the last test of the class
+        last_here : (k : ℕ) → IsLastHit own 0 (64 * blocks (length some.tests)) (Some k)
+            → IsLast p.circuit all.tests r (Some (start + k))
+        last_here k last = (up r k ((is k).0 last.2), later)
+          where
+            go : (t : ℕ) → start + k < t → DetectsAt p.circuit all.tests r t
+                → (t < end) ⊎ (end ≤ t) → ⊥
+            go t after d (inr past) = none_after t past d
+            go t after d (inl lt) =
+                let x = down r t (omega (arith, after)) lt (inr (omega (arith, after))) d in
+                let same : start + x.0 ≡ t = x.1 in
+                let low = slice_get_within some.tests x.0 x.2.0 x.2.1 in
+                false≢true (sym (last.3 x.0 (omega (arith, after, same)) (omega (arith, low)))
+                ∙ (is x.0).1 x.2)
+
+            later : (t : ℕ) → start + k < t → ¬ DetectsAt p.circuit all.tests r t
+            later t after d = go t after d (cases_lt t end)
+
+        -- without a hit no test from the end of the next turn on detects the class
+        none_here : IsLastHit own 0 (64 * blocks (length some.tests)) None → (next t : ℕ)
+            → IsNextEnd start next → next ≤ t → ¬ DetectsAt p.circuit all.tests r t
+        none_here last next t follows le d = go (cases_lt t end) follows
+          where
+            hit : start ≤ t → t < end → (start ≡ 0) ⊎ (start < t) → ⊥
+            hit above lt after =
+                let x = down r t above lt after d in
+                let low = slice_get_within some.tests x.0 x.2.0 x.2.1 in
+                false≢true (sym (last x.0 (omega arith) (omega (arith, low))) ∙ (is x.0).1 x.2)
+
+            go : (t < end) ⊎ (end ≤ t) → IsNextEnd start next → ⊥
+            go (inr past) e = none_after t past d
+            go (inl lt) (inl zero) =
+                let first = zero.0 in hit (omega (arith, first)) lt (inl first)
+            go (inl lt) (inr after) =
+                let is = after.1 in hit (omega (arith, is, le)) lt (inr (omega (arith, is, le)))
+
+  module _ (classes : List ℕ) (found : List (Option ℕ)) (old : List Bool)
+      (was : AreLastFrom (with_tests p all) end classes old)
+      (are : AreKept (task_of (with_tests p some) 0 (λ _. true) IsLastHit) classes found) where
+    -- a class that was open has its last test in the turn, if the turn has one
+    last_of : (j k class : ℕ) → slice_get classes j ≡ Some class
+        → slice_get found j ≡ Some (Some k)
+        → IsLastOfClass (with_tests p all) class (Some (start + k))
+    last_of j k class listed e =
+        let low = was.within j class listed in
+        let r = within_place (representatives p.list.model p.circuit) class
+        (omega (arith, low, class_count p b)) in
+        let w = which_detect p.list.model p.circuit some.tests class r.0 b.circuit.well_formed r.1
+        in (
+          r.0,
+          r.1,
+          last_here class r.0 r.1 (was.none j class listed) w.0 w.1 k
+              (are.each w.0 j class (Some k) listed e (r.0, r.1, w.1)),
+        )
+
+    -- the tests of the turn have been taken
+    pub turn_taken : (left : List ℕ) (new : List Bool)
+        → HaveMarked start found (length found) old new
+        → AreLeftOpen classes found (length classes) left → (next : ℕ) → IsNextEnd start next
+        → AreLastFrom (with_tests p all) next left new
+    turn_taken left new marks others next follows = record {
+      count = marks.count ∙ was.count;
+      some = λ t on. old_or_new t (marks.marked t on);
+      few = let f = others.few in let g = was.few in omega (arith, f, g);
+      within = λ k class at. let x = others.each k class at in was.within x.0 class x.1;
+      none = λ k class at hits h t le.
+          let x = others.each k class at in
+          off class x.0 x.1 x.2 hits h t le (bit_cases (hits t));
+      all = λ class low. each class (was.all class low);
+    }
+      where
+        old_or_new : (t : ℕ) → (get_or old t false ≡ true)
+            ⊎ ((j : ℕ) × (k : ℕ) × (slice_get found j ≡ Some (Some k)) × (t ≡ start + k))
+            → (class : ℕ) × IsLastOfClass (with_tests p all) class (Some t)
+        old_or_new t (inl on) = was.some t on
+        old_or_new t (inr x) =
+            let within = slice_get_within found x.0 (Some x.1) x.2 in
+            let class = within_place classes x.0 (omega (arith, within, are.count)) in (
+              class.0,
+              subst (λ n. IsLastOfClass (with_tests p all) class.0 (Some n)) (sym x.3)
+                  (last_of x.0 x.1 class.0 class.1 x.2),
             )
 
--- a later last hit is the last one of both
-pub last_later : (start t : ℕ) (new : Option ℕ) → (start + t < 65536 → new ≡ Some (start + t))
-    → (hits own : ℕ → Bool) (low mid high : ℕ) → low ≤ start + mid → mid ≤ high
-    → start + high ≤ 65536 → ((t : ℕ) → mid ≤ t → t < high → own t ≡ hits (start + t))
-    → IsLastHit own mid high (Some t) → IsLastHit hits low (start + high) new
-last_later start t new is hits own low mid high le up few same found =
-    let above = found.0 in
-    let below = found.1 in
-    let here : new ≡ Some (start + t) = is (omega (arith, below, few)) in
-    subst (IsLastHit hits low (start + high)) (sym here) (
-      omega (arith, le, above),
-      omega (arith, below),
-      sym (same t above below) ∙ found.2,
-      λ later after within.
-          let back : start + (later - start) ≡ later = omega (arith, after) in
-          let mine : mid ≤ later - start = omega (arith, after, above) in
-          let ends : later - start < high = omega (arith, after, within) in
-          ap hits (sym back) ∙ (sym (same (later - start) mine ends)
-          ∙ found.3 (later - start) (omega (arith, after)) ends),
-    )
+        off : (class j : ℕ) → slice_get classes j ≡ Some class → slice_get found j ≡ Some None
+            → (hits : ℕ → Bool) (h : AreHits (with_tests p all) class hits) (t : ℕ) → next ≤ t
+            → (hits t ≡ true) ⊎ (hits t ≡ false) → hits t ≡ false
+        off class j listed e hits h t le (inr none) = none
+        off class j listed e hits h t le (inl on) =
+            let w = which_detect p.list.model p.circuit some.tests class h.0 b.circuit.well_formed
+            h.1 in
+            absurd (none_here class h.0 h.1 (was.none j class listed) w.0 w.1
+            (are.each w.0 j class None listed e (h.0, h.1, w.1)) next t follows le ((h.2 t).0 on))
 
--- and if there is no later hit, the one before is
-pub last_before : (start : ℕ) (old : Option ℕ) (hits own : ℕ → Bool) (low mid high : ℕ)
-    → low ≤ start + mid → mid ≤ high → ((t : ℕ) → mid ≤ t → t < high → own t ≡ hits (start + t))
-    → IsLastHit hits low (start + mid) old → IsLastHit own mid high None
-    → IsLastHit hits low (start + high) old
-last_before start old hits own low mid high le up same was none =
-    last_unchanged old hits low (start + mid) (start + high) (omega (arith, up)) (λ t above within.
-    let back : start + (t - start) ≡ t = omega (arith, above) in
-    let mine : mid ≤ t - start = omega (arith, above) in
-    let ends : t - start < high = omega (arith, above, within) in
-    ap hits (sym back) ∙ (sym (same (t - start) mine ends) ∙ none (t - start) mine ends)) was
+        found_one : (class j : ℕ) (one : Option ℕ) → slice_get classes j ≡ Some class
+            → slice_get found j ≡ Some one
+            → ((k : ℕ) × (slice_get left k ≡ Some class))
+            ⊎ ((t : ℕ) × IsLastOfClass (with_tests p all) class (Some t)
+            × (get_or new t false ≡ true))
+        found_one class j None listed e =
+            inl (others.all j class (slice_get_within classes j class listed) listed e)
+        found_one class j (Some k) listed e =
+            let last = last_of j k class listed e in
+            let low = slice_get_within all.tests (start + k) last.2.0.0 last.2.0.1 in
+            inr (
+              start + k,
+              last,
+              marks.all j k (slice_get_within found j (Some k) e) e
+                  (omega (arith, low, was.count)),
+            )
+
+        each : (class : ℕ) → ((j : ℕ) × (slice_get classes j ≡ Some class))
+            ⊎ ((t : ℕ) × IsLastOfClass (with_tests p all) class (Some t)
+            × (get_or old t false ≡ true))
+            → ((k : ℕ) × (slice_get left k ≡ Some class))
+            ⊎ ((t : ℕ) × IsLastOfClass (with_tests p all) class (Some t)
+            × (get_or new t false ≡ true))
+        each class (inl x) =
+            let low = slice_get_within classes x.0 class x.1 in
+            let one = within_place found x.0 (omega (arith, low, are.count)) in
+            found_one class x.0 one.0 x.1 one.1
+        each class (inr x) = inr (x.0, x.1, marks.kept x.0 x.2)
+
+-- the next turn ends before this one does
+pub next_less : (start next end size : ℕ) → 2 ≤ size → (0 < start → start + size ≤ end) → 0 < end
+    → IsNextEnd start next → next < end
+next_less start next end size some far low (inl e) = let is = e.1 in omega (arith, is, low)
+next_less start next end size some far low (inr e) =
+    let is = e.1 in
+    let room = far e.0 in
+    omega (arith, is, room, some)
+
+-- ---- before the first turn and after the last
+
+module _ (p : Parts) (all : TestList) (b : BelongTogether p) where
+  -- no test detects a class that comes after the last test
+  pub none_past : (class : ℕ) → NoneFrom (with_tests p all) class (length all.tests)
+  none_past class hits h t le = go (bit_cases (hits t))
+    where
+      go : (hits t ≡ true) ⊎ (hits t ≡ false) → hits t ≡ false
+      go (inr off) = off
+      go (inl on) =
+          let d = (h.2 t).0 on in
+          let lt = slice_get_within all.tests t d.0 d.1 in
+          absurd (omega (arith, lt, le))
+
+  -- no test has been taken: no test is marked, and all classes are open
+  pub none_yet : (job : Parts) (classes : List ℕ) (marks : List Bool) → AreAllByRegion job classes
+      → job.classes ≡ p.classes → marks ≡ replicate (length all.tests) false
+      → AreLastFrom (with_tests p all) (length all.tests) classes marks
+  none_yet job classes marks by same is = record {
+    count = ap length is ∙ length-replicate (length all.tests) false;
+    some = λ t on. absurd (false≢true (sym (off t) ∙ on));
+    few = subst (λ (x : Collapsed). length classes ≤ length x.representative) same by.few;
+    within = λ k class at. subst (λ (x : Collapsed). class < length x.representative) same
+        (by.each k class at).0;
+    none = λ k class at. none_past class;
+    all = λ class low. inl (by.all class
+        (subst (λ (x : Collapsed). class < length x.representative) (sym same) low) tt);
+  }
+    where
+      none : (t : ℕ) → (t < length all.tests) ⊎ (length all.tests ≤ t)
+          → get_or (replicate (length all.tests) false) t false ≡ false
+      none t (inl low) = get_or-replicate (length all.tests) t false false low
+      none t (inr past) = get_or_past (replicate (length all.tests) false) t false
+          (omega (arith, past, length-replicate (length all.tests) false))
+
+      off : (t : ℕ) → get_or marks t false ≡ false
+      off t = ap (λ xs. get_or xs t false) is ∙ none t (cases_lt t (length all.tests))
+
+  -- the marks are those of the last tests once all tests have been taken, or no class is open
+  pub all_taken : (from : ℕ) (classes : List ℕ) (marks : List Bool)
+      → AreLastFrom (with_tests p all) from classes marks → (from ≡ 0) ⊎ (length classes ≡ 0)
+      → AreLasting p.list.model p.circuit all.tests marks
+  all_taken from classes marks are ended = record { count = are.count; last = last; found = found }
+    where
+      last : (t : ℕ) → slice_get marks t ≡ Some true
+          → IsLastForSome p.list.model p.circuit all.tests t
+      last t mark =
+          let own = are.some t (get_or_from_slice_get marks t true false mark) in
+          let of = own.1 in
+          (of.0, (own_class p.list.model p.circuit of.0 own.0 of.1).1, of.2.0, of.2.1)
+
+      closed : (class k t : ℕ) (r : Fault) → slice_get classes k ≡ Some class
+          → slice_get (representatives p.list.model p.circuit) class ≡ Some r
+          → DetectsAt p.circuit all.tests r t → (from ≡ 0) ⊎ (length classes ≡ 0) → ⊥
+      closed class k t r at rep d (inl zero) =
+          let w = which_detect p.list.model p.circuit all.tests class r b.circuit.well_formed rep
+          in
+          false≢true (sym (are.none k class at w.0 (r, rep, w.1) t (omega (arith, zero)))
+          ∙ (w.1 t).1 d)
+      closed class k t r at rep d (inr empty) =
+          let low = slice_get_within classes k class at in omega (arith, low, empty)
+
+      found : (f : Fault) (t : ℕ) → Contains (faults p.list.model p.circuit) f
+          → DetectsAt p.circuit all.tests f t
+          → (s : ℕ) × DetectsAt p.circuit all.tests f s × (slice_get marks s ≡ Some true)
+      found f t listed d =
+          let of = class_of p f b listed in
+          let r = of.1.0 in
+          let low = place_within (representatives p.list.model p.circuit) of.0 r of.1.3 in
+          go (are.all of.0 (omega (arith, low, class_count p b)))
+        where
+          go : ((k : ℕ) × (slice_get classes k ≡ Some (class_of p f b listed).0))
+              ⊎ ((s : ℕ) × IsLastOfClass (with_tests p all) (class_of p f b listed).0 (Some s)
+              × (get_or marks s false ≡ true))
+              → (s : ℕ) × DetectsAt p.circuit all.tests f s × (slice_get marks s ≡ Some true)
+          go (inl x) =
+              let of = class_of p f b listed in
+              absurd (closed of.0 x.0 t of.1.0 x.1 of.1.3
+              (as_class p f of.0 all.tests t b of.1 d) ended)
+          go (inr x) =
+              let of = class_of p f b listed in
+              let last = x.1 in
+              let same : last.0 ≡ of.1.0 =
+              ap (λ o. unwrap_or o of.1.0) (sym last.1 ∙ of.1.3) in
+              let here = subst (λ g. DetectsAt p.circuit all.tests g x.0) same last.2.0 in
+              let low = slice_get_within all.tests x.0 here.0 here.1 in (
+                x.0,
+                as_fault p f of.0 all.tests x.0 b of.1 here,
+                slice_get-get_or marks x.0 false (omega (arith, low, are.count)) ∙ ap Some x.2,
+              )

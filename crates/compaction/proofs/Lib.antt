@@ -9,3 +9,4 @@ mod ReversedLists
 mod KeptTests
 mod LastTests
 pub mod Public
+mod LeftClasses

@@ -1,7 +1,7 @@
 -- Tests in steepest order, one after another.
 use Rattle.std.proofs.Common.{◌≡◌, ◌+◌, ◌<◌, ◌≤◌, ◌∙◌, ◌++◌, ◌∷◌, [], ℕ, zero, suc, Bool, true}
-use Rattle.std.proofs.Common.{false, List, ap, arith, cond, count_by, get_or, inl, inr, length, not}
-use Rattle.std.{proofs.Common.{refl, subst, sym, take, ◌⊎◌}, specs.List.list_any}
+use Rattle.std.proofs.Common.{false, List, ap, arith, cond, count_by, get_or, length, not}
+use Rattle.std.{proofs.Common.{refl, subst, sym, take}, specs.List.list_any}
 use Rattle.std.specs.Prelude.{◌&&◌, ◌||◌, All, None, Some, filter, slice_get}
 use Rattle.std.proofs.lemmas.List.{take-append-le, Elements.All-filter}
 use Rattle.std.proofs.lemmas.List.Filters.{length-filter_both, sum_by-filter_both}

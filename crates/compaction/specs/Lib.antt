@@ -6,3 +6,4 @@ pub mod Steepest
 pub mod Tallies
 pub mod LastHits
 pub mod LastHitLaws
+pub mod Turns

@@ -1,6 +1,6 @@
 -- The invariants of the marks and of the rows between the two passes.
 use Rattle.std.specs.Prelude.{◌≡◌, ◌+◌, ◌<◌, ◌||◌, ℕ, Bool, true, false, List, length, Contains}
-use Rattle.std.specs.Prelude.{None, Option, Some, slice_get, slice_index, slice_index_or}
+use Rattle.std.specs.Prelude.{None, Option, Some, slice_get, slice_index_or}
 use Rattle.bench_net.specs.Statement.{Statement}
 use Rattle.fault_model.specs.declared.Model.{Model}
 use Rattle.fault_model.specs.declared.Model.TheVariants.{StuckAt}
@@ -55,14 +55,6 @@ abbrev pub IsLastOfClass : Parts → ℕ → Option ℕ → Type 0
 IsLastOfClass job class last = (r : Fault)
     × (slice_get (representatives job.list.model job.circuit) class ≡ Some r)
     × IsLast job.circuit job.tests.tests r last
-
--- each class has a position, and there stands the last test that detects it
-pub record AreLastAt (job : Parts) (positions : List ℕ) (lasts : List (Option ℕ)) : Type 0 where
-  pub count : length positions ≡ length job.classes.representative
-  pub within : (class : ℕ) → class < length job.classes.representative
-      → slice_index positions class < length lasts
-  pub each : (class : ℕ) (last : Option ℕ) → class < length job.classes.representative
-      → slice_get lasts (slice_index positions class) ≡ Some last → IsLastOfClass job class last
 
 -- the rows are some of the tests, detect the same stuck-at faults, and each is the last of them for
 -- some fault

@@ -35,9 +35,10 @@ use workers::RunFault;
 /// of the kept tests.
 ///
 /// Each pass is a run in this number of stretches, and window by window if its tests have more
-/// blocks than a window ([`region_runs::window_blocks`]). The gate observes each, and lets each
-/// piece pass. The job keeps its circuit, its faults and its classes; its tests are others
-/// afterwards.
+/// blocks than a window ([`region_runs::window_blocks`]). Under transition faults the second pass
+/// takes the tests from the last on, some at a turn, in stretches that suit the workers. The gate
+/// observes each pass, and lets each piece pass. The job keeps its circuit, its faults and its
+/// classes; its tests are others afterwards.
 ///
 /// # Errors
 ///

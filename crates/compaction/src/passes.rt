@@ -29,7 +29,8 @@ use workers::RunFault;
 /// the test before it. Under [`Model::TransitionPairs`] only the capture test detects a fault, so
 /// pairs are kept and left out whole.
 ///
-/// Each pass is a run in this number of stretches, and fails as [`RunJob::run`] does.
+/// A pass for first tests is a run in this number of stretches, and fails as [`RunJob::run`] does.
+/// Under transition faults the second pass takes the tests from the last on, some at a turn.
 pub(crate) fn compact_as_listed<G: Watch + Sync, R: Threads + Wait>(
     rt: &R,
     alloc: Global,
@@ -58,7 +59,7 @@ pub(crate) fn compact_as_listed<G: Watch + Sync, R: Threads + Wait>(
         Model::Transition | Model::TransitionPairs => {
             mark_before(&mut found);
             let kept = kept_tests(alloc, run.tests(), &numbers, &found)?;
-            last_pairs(rt, alloc, run, kept, stretches, workers, gate)
+            last_pairs(rt, alloc, run, kept, workers, gate)
         }
     }
 }
@@ -102,16 +103,13 @@ fn last_pairs<G: Watch + Sync, R: Threads + Wait>(
     alloc: Global,
     run: &mut RunJob,
     given: Kept,
-    stretches: u32,
     workers: u32,
     gate: &G,
 ) -> Result<Kept, RunFault>
-    requires passing { G.passing gate.now }
     requires job { BelongTogether run.old.whole }
     requires list { IsTestList given.tests }
     requires width { given.tests.width ≡ run.old.whole.tests.width }
     requires numbers { length given.numbers.items ≡ length given.tests.tests }
-    requires stretches { 0 < stretches }
     requires workers { (0 < workers) × (workers ≤ 64) }
     ensures last { IfOk result (λ kept. AreLastPairsOf run.old.whole.list.model
         run.old.whole.circuit given.tests.tests kept.tests.tests given.numbers.items
@@ -122,8 +120,7 @@ fn last_pairs<G: Watch + Sync, R: Threads + Wait>(
     ensures refused { IfErr result (IsOpenFault workers) }
 {
     let Kept { tests, numbers } = given;
-    run.set_tests(rt, alloc, tests, workers)?;
-    let mut last = lasting_tests(rt, alloc, run, stretches, workers, gate)?;
+    let mut last = lasting_tests(rt, alloc, run, &tests, workers, gate)?;
     mark_before(&mut last);
-    Ok(kept_tests(alloc, run.tests(), &numbers, &last)?)
+    Ok(kept_tests(alloc, &tests, &numbers, &last)?)
 }

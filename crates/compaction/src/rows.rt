@@ -1,11 +1,12 @@
 //! Lists of tests that are made of the tests of a list, and their numbers.
 
-ghost use Rattle.std.specs.Prelude.{◌≡◌, ◌<◌, ◌++◌, ◌∷◌, [], IfOk, OnOk, length};
+ghost use Rattle.std.specs.Prelude.{◌≡◌, ◌<◌, ◌≤◌, ◌++◌, ◌∷◌, [], IfOk, OnOk, length};
 ghost use Rattle.std.specs.Prelude.{slice_index_or};
 ghost use Rattle.std.specs.List.{ReversedBelow};
 ghost use Rattle.compaction.specs.Compaction.{at_marks};
 ghost use Rattle.patterns.specs.Least.{below};
 ghost use Rattle.patterns.specs.Tests.{IsTestList, max_tests};
+ghost use Rattle.region_runs.specs.Windows.{IsWindowOf};
 
 use crate::Kept;
 use patterns::{PushFault, Tests};
@@ -85,6 +86,26 @@ pub(crate) fn reversed_tests(alloc: Global, tests: &Tests) -> Result<Tests, Allo
         push_test(alloc, tests, count - 1 - place, &mut reversed)?;
     }
     Ok(reversed)
+}
+
+/// Returns the tests of a list from one up to another, which is not included.
+pub(crate) fn tests_between(
+    alloc: Global,
+    tests: &Tests,
+    start: u32,
+    end: u32,
+) -> Result<Tests, AllocError>
+    requires order { start ≤ end }
+    requires within { end ≤ length tests.now.tests }
+    ensures rows { IfOk result (λ some. IsWindowOf tests.now.tests start end some.tests) }
+    ensures list { IfOk result (λ some. IsTestList some) }
+    ensures width { IfOk result (λ some. some.width ≡ tests.now.width) }
+{
+    let mut some = Tests::new(alloc, tests.width());
+    for test in start..end {
+        push_test(alloc, tests, test, &mut some)?;
+    }
+    Ok(some)
 }
 
 /// Adds a test of a list to another list of the same width, if there is room for it.
