@@ -3,17 +3,20 @@
  *
  * usage: calls BENCH
  *
+ * The 10,000 random gates of docs/C-LIBRARY.md are of
+ *   generate.py random --gates 10000 --inputs 100 --outputs 100 --ffs 500 --depth 40
+ *
  * A first run of 1,024 random tests drops the classes that are easy to detect: the lists are of the
  * classes that are left, and of all. The last lines say from how many classes on one fs_lanes is
  * faster than as many calls of fs_detecting. */
 #define _POSIX_C_SOURCE 200809L
 #include "faultsim.h"
 #include "../bindings/c/example.h"
+#include "timing.h"
 
 #include <inttypes.h>
 #include <stdio.h>
 #include <stdlib.h>
-#include <time.h>
 
 enum { ROUNDS = 51, FEW = 9, BEFORE = 16 };
 
@@ -22,19 +25,6 @@ static fs_fault fault;
 static fs_sizes n;
 static uint64_t *words, *lanes, state = 1;
 static uint32_t *all, *list, *firsts, count, tests;
-
-static void done(uint32_t status) {
-    if (status) {
-        fprintf(stderr, "calls: status %" PRIu32 "\n", status);
-        exit(1);
-    }
-}
-
-static double now(void) {
-    struct timespec at;
-    clock_gettime(CLOCK_THREAD_CPUTIME_ID, &at);
-    return (double)at.tv_sec * 1e6 + (double)at.tv_nsec * 1e-3;
-}
 
 static void set(void) { done(fs_set_words(&job, tests, words, n.sources, &fault)); }
 static void set_next(void) {
@@ -77,7 +67,7 @@ static void time_lists(uint32_t classes, const char *what) {
     count = classes;
     int rounds = classes > 1000 ? FEW : ROUNDS;
     double each = timed(detect_each, rounds);
-    printf("| %s | %" PRIu32 " | %.0f | %.0f | %.0f | %.0f |\n", what, classes,
+    printf("| %s | %" PRIu32 " | %.1f | %.1f | %.1f | %.1f |\n", what, classes,
            timed(simulate, rounds), timed(find_lanes, rounds), timed(add_counts, rounds), each);
 }
 

@@ -10,12 +10,12 @@
 #define _POSIX_C_SOURCE 200809L
 #include "faultsim.h"
 #include "../bindings/c/example.h"
+#include "timing.h"
 
 #include <inttypes.h>
 #include <stdio.h>
 #include <stdlib.h>
 #include <string.h>
-#include <time.h>
 
 enum { SIZES = 8, COLLECTED = 5 };
 
@@ -24,19 +24,6 @@ static fs_fault fault;
 static fs_sizes n;
 static uint64_t *words, *batch, state = 1;
 static uint32_t *list, *firsts, *own, blocks = 256, left;
-
-static void done(uint32_t status) {
-    if (status) {
-        fprintf(stderr, "turns: status %" PRIu32 "\n", status);
-        exit(1);
-    }
-}
-
-static double now(void) {
-    struct timespec at;
-    clock_gettime(CLOCK_THREAD_CPUTIME_ID, &at);
-    return (double)at.tv_sec * 1e6 + (double)at.tv_nsec * 1e-3;
-}
 
 static void all_left(void) {
     left = n.classes;

@@ -243,36 +243,10 @@ public:
     }
 
     // Returns the fan-in of each signal.
-    FanIns fan_ins_of() const {
-        std::uint32_t nothing = 0;
-        std::size_t wanted = 0;
-        FanIns all{std::vector<std::uint32_t>(sizes().signals + std::size_t{1}), {}};
-        std::uint32_t status =
-            fs_fan_ins_of(&handle, all.starts.data(), all.starts.size(), &nothing, 0, &wanted);
-        if (status == FS_RANGE && wanted != 0) {
-            all.pins.resize(wanted);
-            status = fs_fan_ins_of(&handle, all.starts.data(), all.starts.size(), all.pins.data(),
-                                   all.pins.size(), &wanted);
-        }
-        detail::check(status);
-        return all;
-    }
+    FanIns fan_ins_of() const { return rows<FanIns>(fs_fan_ins_of); }
 
     // Returns the fan-out of each signal.
-    FanOuts fan_outs_of() const {
-        fs_pin nothing{};
-        std::size_t wanted = 0;
-        FanOuts all{std::vector<std::uint32_t>(sizes().signals + std::size_t{1}), {}};
-        std::uint32_t status =
-            fs_fan_outs_of(&handle, all.starts.data(), all.starts.size(), &nothing, 0, &wanted);
-        if (status == FS_RANGE && wanted != 0) {
-            all.pins.resize(wanted);
-            status = fs_fan_outs_of(&handle, all.starts.data(), all.starts.size(),
-                                    all.pins.data(), all.pins.size(), &wanted);
-        }
-        detail::check(status);
-        return all;
-    }
+    FanOuts fan_outs_of() const { return rows<FanOuts>(fs_fan_outs_of); }
 
     // Returns the site of each fault.
     std::vector<fs_site> sites_of() const {
@@ -407,6 +381,22 @@ public:
 
 private:
     Job() = default;
+
+    // Returns the rows of all signals that a call writes, once it has told their number of pins.
+    template <class Rows> Rows rows(auto call) const {
+        std::size_t wanted = 0;
+        Rows all{std::vector<std::uint32_t>(sizes().signals + std::size_t{1}), {}};
+        typename decltype(all.pins)::value_type nothing{};
+        std::uint32_t status =
+            call(&handle, all.starts.data(), all.starts.size(), &nothing, 0, &wanted);
+        if (status == FS_RANGE && wanted != 0) {
+            all.pins.resize(wanted);
+            status = call(&handle, all.starts.data(), all.starts.size(), all.pins.data(),
+                          all.pins.size(), &wanted);
+        }
+        detail::check(status);
+        return all;
+    }
 
     // Returns the text of a call whose last argument gets the number of its bytes.
     static std::string text(auto call) {

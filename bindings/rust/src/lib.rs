@@ -66,6 +66,10 @@ impl SignalKind {
     ];
 }
 
+/// A call that writes a row of pins for each signal.
+type RowsCall<P> =
+    unsafe extern "C" fn(*mut Handle, *mut u32, usize, *mut P, usize, *mut usize) -> u32;
+
 /// The fan-in of each signal: the signals that the pins of its gate read, in order.
 #[derive(Clone, Debug, PartialEq, Eq)]
 pub struct FanIns {
@@ -378,35 +382,24 @@ impl Job {
 
     /// Returns the fan-in of each signal.
     pub fn fan_ins_of(&self) -> FanIns {
-        let mut starts = vec![0; self.sizes().signals as usize + 1];
-        let (mut pins, mut wanted) = (Vec::new(), 0);
-        loop {
-            // SAFETY: as above.
-            let status = unsafe {
-                sys::fs_fan_ins_of(
-                    self.0.get(),
-                    starts.as_mut_ptr(),
-                    starts.len(),
-                    pins.as_mut_ptr(),
-                    pins.len(),
-                    &mut wanted,
-                )
-            };
-            if status == 0 || pins.len() == wanted {
-                return FanIns { starts, pins };
-            }
-            pins.resize(wanted, 0);
-        }
+        let (starts, pins) = self.rows_by(sys::fs_fan_ins_of);
+        FanIns { starts, pins }
     }
 
     /// Returns the fan-out of each signal.
     pub fn fan_outs_of(&self) -> FanOuts {
+        let (starts, pins) = self.rows_by(sys::fs_fan_outs_of);
+        FanOuts { starts, pins }
+    }
+
+    /// Returns the rows of all signals that a call writes, once it has told their number of pins.
+    fn rows_by<P: Clone + Default>(&self, call: RowsCall<P>) -> (Vec<u32>, Vec<P>) {
         let mut starts = vec![0; self.sizes().signals as usize + 1];
         let (mut pins, mut wanted) = (Vec::new(), 0);
         loop {
             // SAFETY: as above.
             let status = unsafe {
-                sys::fs_fan_outs_of(
+                call(
                     self.0.get(),
                     starts.as_mut_ptr(),
                     starts.len(),
@@ -416,9 +409,9 @@ impl Job {
                 )
             };
             if status == 0 || pins.len() == wanted {
-                return FanOuts { starts, pins };
+                return (starts, pins);
             }
-            pins.resize(wanted, Pin::default());
+            pins.resize(wanted, P::default());
         }
     }
 
